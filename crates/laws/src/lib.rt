@@ -1,0 +1,1 @@
+// Lemmas that more than one crate cites. No code: read proofs/, one topic a file.

@@ -1,0 +1,3 @@
+pub mod Order
+pub mod Rfc1982
+pub mod Agreement
