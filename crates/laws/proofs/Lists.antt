@@ -1,22 +1,31 @@
 -- Lists of numbers by place, and a loop that maps one in place. Assumes nothing.
---     map-at         what stands at a place of a mapped list
+--     map-at         what stands at a place of a mapped list; map-const, a map to one value
 --     partly-..      a loop that maps a list in place from the front: after i turns it is `partly f i s`
 use mathlib.Core.Path.{_≡_, refl, ap, sym}
 use mathlib.Core.List.{List, [], _∷_, map}
 use Prim.Native.Nat.{ℕ, zero, suc, _+_, _≤_, _<_}
 use native.Mathlib.Nat.{not-suc-le-zero, le-of-suc-le-suc}
 use native.Mathlib.Numerals.{add-one}
-use lib.ListN.{length, getD, set}
+use lib.ListN.{length, getD, set, replicate}
 
 pub map-at : (f : ℕ → ℕ) (l : List ℕ) (i : ℕ) → i < length l → getD (map f l) i 0 ≡ f (getD l i 0)
 map-at f [] i h = absurd (not-suc-le-zero h)
 map-at f (x ∷ l) zero h = refl
 map-at f (x ∷ l) (suc i) h = map-at f l i (le-of-suc-le-suc h)
 
+pub map-const : (v : ℕ) (l : List ℕ) → map (λ (x : ℕ). v) l ≡ replicate (length l) v
+map-const v [] = refl
+map-const v (x ∷ l) = ap (λ (t : List ℕ). v ∷ t) (map-const v l)
+
 abbrev pub partly : (ℕ → ℕ) → ℕ → List ℕ → List ℕ
 partly f zero s = s
 partly f (suc i) [] = []
 partly f (suc i) (x ∷ s) = f x ∷ partly f i s
+
+pub partly-length : (f : ℕ → ℕ) (i : ℕ) (s : List ℕ) → length (partly f i s) ≡ length s
+partly-length f zero s = refl
+partly-length f (suc i) [] = refl
+partly-length f (suc i) (x ∷ s) = ap suc (partly-length f i s)
 
 -- what the next turn reads
 pub partly-at : (f : ℕ → ℕ) (i : ℕ) (s : List ℕ) → getD (partly f i s) i 0 ≡ getD s i 0

@@ -1,0 +1,55 @@
+use borrow.Author.Needs.{needs}
+use Rattle.sequence_buffer.proofs.remove.Statement.{statement}
+use Rattle.sequence_buffer.proofs.remove.Tie as tie
+use mathlib.Core.Path.{_≡_, refl, sym, _∙_}
+use borrow.Author.Tests.{eq-eqb, ne-eqb}
+use mathlib.Core.Bool.{true, false}
+use denote.Ref.{now}
+use Rattle.sequence_buffer.specs.Buffer.{holds, removedSlots}
+
+slot-requires : tie.Need-slot-requires
+slot-requires c κs = search needs
+
+mul-if1 : tie.Need-mul-if1
+mul-if1 c = search needs
+
+slice-read-if1 : tie.Need-slice-read-if1
+slice-read-if1 c = search needs
+
+cast-if1 : tie.Need-cast-if1
+cast-if1 c = search needs
+
+mul-slots : tie.Need-mul-slots
+mul-slots c = search needs
+
+slice-write-slots : tie.Need-slice-write-slots
+slice-write-slots c = search needs
+
+same-length : tie.Need-same-length
+same-length c = search needs
+
+returns : tie.Need-returns
+unfolding removedSlots
+returns c =
+    let held : holds (now (c .before .before .before .before .before .args .slots)) (c .before .before .before .before .before .args .number .0) ≡ true = rw (← c .before .before .before .slot .ensures .0) (eq-eqb _ _ (c .if1 .taken)) in
+    (sym held, rw (held, ← c .before .before .before .slot .ensures .0))
+
+returns-2 : tie.Need-returns-2
+unfolding removedSlots
+returns-2 c =
+    let held : holds (now (c .before .before .before .before .before .args .slots)) (c .before .before .before .before .before .args .number .0) ≡ false = rw (← c .before .before .before .slot .ensures .0) (ne-eqb _ _ (c .if1 .left)) in
+    (sym held, rw held)
+
+pub remove-spec : {M : Type 1} → statement M
+remove-spec =
+    tie.close
+    (tie.spec
+    slot-requires
+    mul-if1
+    slice-read-if1
+    cast-if1
+    mul-slots
+    slice-write-slots
+    same-length
+    returns
+    returns-2)
