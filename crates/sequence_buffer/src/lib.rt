@@ -6,7 +6,7 @@ ghost use mathlib.Core.Path.{_≡_};
 ghost use mathlib.Core.List.{map};
 ghost use Prim.Native.Nat.{_%_, _≤_, _<_};
 ghost use lib.ListN.{length};
-ghost use Rattle.sequence_buffer.specs.Buffer.{fresh, holds, goes, emptied, advancedNum, advancedSlots, inserted, insertedSlots, removedSlots};
+ghost use Rattle.sequence_buffer.specs.Buffer.{fresh, holds, tooOld, goes, emptied, advancedNum, advancedSlots, inserted, insertedSlots, removedSlots};
 ghost use Rattle.sequence_buffer.specs.Facts.{SlotFacts};
 use serial::PacketNumber;
 
@@ -31,7 +31,7 @@ pub fn insert(sequence_num: PacketNumber, slots: &mut [u32], number: PacketNumbe
     ensures { λ _. ⌜ now (slots .exit) ≡ insertedSlots («sequence_num» .0) (now (slots .entry)) (number .0) ⌝ }
 {
     let size = slots.len();
-    if serial::sequence_less_than(number.0, serial::distance(sequence_num.0, size as u16)) {
+    if too_old(sequence_num, slots, number) {
         return Inserted {
             sequence_num,
             insertion: Insertion::TooOld,
@@ -44,6 +44,17 @@ pub fn insert(sequence_num: PacketNumber, slots: &mut [u32], number: PacketNumbe
         sequence_num: PacketNumber(after),
         insertion: Insertion::At(at),
     }
+}
+
+// The number is too old to be inserted. Requires 1 to 64 slots.
+pub fn too_old(sequence_num: PacketNumber, slots: &[u32], number: PacketNumber) -> bool
+    requires { ⌜ (1 ≤ length (now slots)) × (length (now slots) ≤ 64) ⌝ }
+    ensures { λ r. ⌜ r ≡ tooOld («sequence_num» .0) (now (slots .entry)) (number .0) ⌝ }
+{
+    serial::sequence_less_than(
+        number.0,
+        serial::distance(sequence_num.0, slots.len() as u16),
+    )
 }
 
 // The number is in its slot. Requires 1 to 64 slots.
