@@ -1,12 +1,15 @@
 -- Lists of numbers by place, and a loop that maps one in place. Assumes nothing.
 --     map-at         what stands at a place of a mapped list; map-const, a map to one value
 --     partly-..      a loop that maps a list in place from the front: after i turns it is `partly f i s`
-use mathlib.Core.Path.{_≡_, refl, ap, sym}
+--     drop-back      what a loop from the back reads next
+use mathlib.Core.Path.{_≡_, refl, ap, sym, _∙_}
 use mathlib.Core.List.{List, [], _∷_, map}
-use Prim.Native.Nat.{ℕ, zero, suc, _+_, _≤_, _<_}
+use Prim.Native.Nat.{ℕ, zero, suc, _+_, _-_, _≤_, _<_}
 use native.Mathlib.Nat.{not-suc-le-zero, le-of-suc-le-suc}
 use native.Mathlib.Numerals.{add-one}
-use lib.ListN.{length, getD, set, replicate}
+use native.Mathlib.Omega.{arith}
+use lib.ListN.{length, getD, set, drop, replicate}
+use lib.Seq.{drop-cons}
 
 pub map-at : (f : ℕ → ℕ) (l : List ℕ) (i : ℕ) → i < length l → getD (map f l) i 0 ≡ f (getD l i 0)
 map-at f [] i h = absurd (not-suc-le-zero h)
@@ -48,3 +51,8 @@ partly-all f zero [] h = refl
 partly-all f (suc i) [] h = refl
 partly-all f zero (x ∷ s) h = absurd (not-suc-le-zero h)
 partly-all f (suc i) (x ∷ s) h = ap (λ (t : List ℕ). f x ∷ t) (partly-all f i s (le-of-suc-le-suc h))
+
+pub drop-back : (l : List ℕ) (i : ℕ) → 0 < i → i ≤ length l → drop (i - 1) l ≡ getD l (i - 1) 0 ∷ drop i l
+drop-back l i some h =
+    let e : suc (i - 1) ≡ i = omega arith in
+    drop-cons l (i - 1) 0 (omega arith) ∙ ap (λ (k : ℕ). getD l (i - 1) 0 ∷ drop k l) e
