@@ -1,0 +1,58 @@
+-- Each way out has the tests that led there.
+use borrow.Author.Needs.{needs}
+use Rattle.flight.proofs.acked.without_acked.Statement.{statement}
+use Rattle.flight.proofs.acked.without_acked.Tie as tie
+use mathlib.Core.Path.{_≡_, refl}
+use borrow.Author.Tests.{lt-ltb, le-ltb, le-leb, lt-leb, eq-eqb, ne-eqb}
+use Rattle.sequence_buffer.specs.Buffer.{emptied}
+use Rattle.flight.specs.Acked.{isAcked}
+
+cast-distance : tie.Need-cast-distance
+cast-distance c = search needs
+
+distance-requires : tie.Need-distance-requires
+distance-requires c κs = search needs
+
+returns : tie.Need-returns
+unfolding isAcked emptied
+returns c = rw (lt-ltb _ _ (c .before .before .if1 .taken), ← c .before .distance .ensures, eq-eqb _ _ (c .if2 .taken))
+
+sub-if4 : tie.Need-sub-if4
+sub-if4 c = search needs
+
+cast-if4 : tie.Need-cast-if4
+cast-if4 c = search needs
+
+shr-if4 : tie.Need-shr-if4
+shr-if4 c = search needs
+
+returns-2 : tie.Need-returns-2
+unfolding isAcked emptied
+returns-2 c = rw (lt-ltb _ _ (c .before .before .before .before .if1 .taken), ← c .before .before .before .distance .ensures, ne-eqb _ _ (c .before .before .if2 .left), le-leb _ _ (c .before .if3 .taken), eq-eqb _ _ (c .if4 .taken))
+
+returns-3 : tie.Need-returns-3
+unfolding isAcked emptied
+returns-3 c = rw (lt-ltb _ _ (c .before .before .before .before .if1 .taken), ← c .before .before .before .distance .ensures, ne-eqb _ _ (c .before .before .if2 .left), le-leb _ _ (c .before .if3 .taken), ne-eqb _ _ (c .if4 .left))
+
+returns-4 : tie.Need-returns-4
+unfolding isAcked emptied
+returns-4 c = rw (lt-ltb _ _ (c .before .before .before .if1 .taken), ← c .before .before .distance .ensures, ne-eqb _ _ (c .before .if2 .left), lt-leb _ _ (c .if3 .left))
+
+returns-5 : tie.Need-returns-5
+unfolding isAcked emptied
+returns-5 c = rw (le-ltb _ _ (c .if1 .left))
+
+pub without-acked-spec : {M : Type 1} → statement M
+without-acked-spec =
+    tie.close
+    (tie.spec
+    cast-distance
+    distance-requires
+    returns
+    sub-if4
+    cast-if4
+    shr-if4
+    returns-2
+    returns-3
+    returns-4
+    returns-5)

@@ -1,0 +1,4 @@
+pub mod Entry
+pub mod Places
+pub mod Acked
+pub mod Lost
