@@ -1,3 +1,4 @@
 pub mod Places
+pub mod First
 pub mod Twice
 pub mod KeySet
