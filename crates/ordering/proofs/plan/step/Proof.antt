@@ -1,0 +1,13 @@
+use borrow.Author.Needs.{needs}
+use Rattle.ordering.proofs.plan.step.Statement.{statement}
+use Rattle.ordering.proofs.plan.step.Tie as tie
+use Rattle.ordering.proofs.Counters.{named}
+
+successor-requires : tie.Need-successor-requires
+successor-requires c κs = search needs
+
+returns : tie.Need-returns
+returns c = rw (named (c .successor .result) _ (c .successor .ensures))
+
+pub step-spec : {M : Type 1} → statement M
+step-spec = tie.close (tie.spec successor-requires returns)

@@ -1,0 +1,5 @@
+pub mod State
+pub mod Arrange
+pub mod Take
+pub mod Gate
+pub mod Room
