@@ -1,4 +1,3 @@
-pub mod Counters
 pub mod Places
 pub mod Planned
 pub mod Fits

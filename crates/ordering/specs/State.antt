@@ -8,6 +8,7 @@ use Rattle.keys.specs.Keys.{firstPlace}
 use Rattle.serial.specs.Order.{next}
 use Rattle.serial.specs.declared.ItemId.{ItemId}
 use Rattle.ordering.specs.declared.OrderingStream.{OrderingStream}
+use Rattle.ordering.specs.declared.NewItem.{NewItem}
 
 -- The first `held` places of the tables are the items that wait: the item at place k has its index at `index` k, its
 -- length at `lengths` k and its bytes from k * F on.
@@ -39,6 +40,14 @@ fresh = record { «expected_index» = record { 0 = 0 }; held = 0; «next_item» 
 -- the identifier after this one
 abbrev pub following : ItemId → ItemId
 following i = record { 0 = next (i .0) }
+
+-- "each sending stream numbers its own items from 0, adding one with wrap-around at each accepted send"
+abbrev pub numbered : OrderingStream → NewItem
+numbered s =
+    record {
+      item = s .«next_item»;
+      stream = record { «expected_index» = s .«expected_index»; held = s .held; «next_item» = following (s .«next_item») };
+    }
 
 -- where an index is held, its place; where it is not, the first free place
 abbrev pub placeOf : OrderingStream → List ℕ → ℕ → ℕ

@@ -2,7 +2,7 @@
 // next one that is held; after each arrival a user takes until nothing comes. It leaves out who sends: that is the link.
 // The counters go by value, the tables and the bytes of 64 held items are lent.
 ghost use mathlib.Core.Path.{_≡_};
-ghost use Rattle.ordering.specs.State.{lending, fresh, following};
+ghost use Rattle.ordering.specs.State.{lending, fresh, numbered};
 ghost use Rattle.ordering.specs.Gate.{Arranges, Takes};
 use gate::Gate;
 use serial::ItemId;
@@ -67,7 +67,7 @@ impl OrderingStream {
 
     // The identifier of an item that is sent on this stream.
     pub fn new_item_identifier(self) -> NewItem
-        ensures { λ r. ⌜ (r .item ≡ self .«next_item») × (r .stream ≡ record { «expected_index» = self .«expected_index»; held = self .held; «next_item» = following (self .«next_item») }) ⌝ }
+        ensures { λ r. ⌜ r ≡ numbered self ⌝ }
     {
         let item = self.next_item;
         let expected_index = self.expected_index;

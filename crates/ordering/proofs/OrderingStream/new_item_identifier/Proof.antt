@@ -1,14 +1,13 @@
 use borrow.Author.Needs.{needs}
 use Rattle.ordering.proofs.OrderingStream.new_item_identifier.Statement.{statement}
 use Rattle.ordering.proofs.OrderingStream.new_item_identifier.Tie as tie
-use mathlib.Core.Path.{refl}
-use Rattle.ordering.proofs.Counters.{named}
+use Rattle.serial.proofs.Items.{named}
 
 successor-requires : tie.Need-successor-requires
 successor-requires c κs = search needs
 
 returns : tie.Need-returns
-returns c = (refl, rw (named (c .successor .result) _ (c .successor .ensures)))
+returns c = rw (named (c .successor .result) _ (c .successor .ensures))
 
 pub new-item-identifier-spec : {M : Type 1} → statement M
 new-item-identifier-spec = tie.close (tie.spec successor-requires returns)

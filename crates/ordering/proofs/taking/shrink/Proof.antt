@@ -1,7 +1,7 @@
 use borrow.Author.Needs.{needs}
 use Rattle.ordering.proofs.taking.shrink.Statement.{statement}
 use Rattle.ordering.proofs.taking.shrink.Tie as tie
-use Rattle.ordering.proofs.Counters.{named}
+use Rattle.serial.proofs.Items.{named}
 
 successor-requires : tie.Need-successor-requires
 successor-requires c κs = search needs
