@@ -1,4 +1,5 @@
 pub mod Bits
 pub mod Cases
 pub mod Lists
+pub mod Paste
 pub mod Slots
