@@ -9,6 +9,7 @@ use mathlib.Core.List.{List, [], _++_, append-assoc, append-nil}
 use native.Mathlib.Nat.{le-of-lt, mul-le-mul-right, suc-mul, add-sub-cancel-left}
 use native.Mathlib.Numerals.{add-one}
 use native.Mathlib.Omega.{arith}
+use Rattle.laws.proofs.Paste.{paste-after}
 use lib.ListN.{length, getD, take, drop, set, length-drop, drop-of-length-le}
 use lib.Seq.{length-take-le, take-length, drop-drop, getD-drop, getD-append-add, paste, paste-suc, length-paste-head}
 
@@ -17,17 +18,6 @@ place-end k f h = rw suc-mul at (mul-le-mul-right f h)
 
 pub place-room : (k f l n : ℕ) → k < 64 → l ≤ f → 64 * f ≤ n → k * f + l ≤ n
 place-room k f l n h q p = omega (arith, place-end k f h)
-
--- what lies past a copy is as it was
-pub paste-after : (d : List ℕ) (at : ℕ) (s : List ℕ) (n k : ℕ) → at + n ≤ length d → n ≤ length s → at + n ≤ k → getD (paste d at s n) k 0 ≡ getD d k 0
-paste-after d at s n k hd hs h =
-    let m : ℕ = k - (at + n) in
-    let e : k ≡ at + n + m = omega arith in
-    let p : length (take at d ++ take n s) ≡ at + n = length-paste-head d at s n (omega arith) hs in
-    ap (λ (j : ℕ). getD (paste d at s n) j 0) (e ∙ ap (λ (j : ℕ). j + m) (sym p))
-    ∙ getD-append-add (take at d ++ take n s) (drop (at + n) d) m 0
-    ∙ getD-drop (at + n) d m 0
-    ∙ ap (λ (j : ℕ). getD d j 0) (sym e)
 
 pub move-step : (d : List ℕ) (from to j : ℕ) → to ≤ from → from + j < length d
     → set (paste d to (drop from d) j) (to + j) (getD (paste d to (drop from d) j) (from + j) 0) ≡ paste d to (drop from d) (j + 1)
