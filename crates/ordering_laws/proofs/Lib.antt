@@ -1,0 +1,6 @@
+pub mod Found
+pub mod Put
+pub mod Removed
+pub mod Map
+pub mod Stays
+pub mod Filled
