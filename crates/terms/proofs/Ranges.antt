@@ -1,21 +1,17 @@
 -- What sizes in range say, size by size. Assumes nothing.
-use mathlib.Core.Path.{_≡_, refl}
-use mathlib.Core.Bool.{Bool, true, false, _&&_}
+use mathlib.Core.Path.{_≡_}
+use mathlib.Core.Bool.{true}
 use Prim.Native.Nat.{ℕ, _≤_}
 use lib.Dec.{leb}
 use borrow.Author.Tests.{leb-true}
-use Rattle.laws.proofs.Cases.{both}
+use Rattle.laws.proofs.Cases.{each}
 use Rattle.terms.specs.Sizes.{between, inRange}
 use Rattle.terms.specs.declared.Sizes.{Sizes}
-
-two : (a b : Bool) → (a && b) ≡ true → (a ≡ true) × (b ≡ true)
-two true b e = (refl, e)
-two false b e = both e refl
 
 within : (size most : ℕ) → between size most ≡ true → (1 ≤ size) × (size ≤ most)
 unfolding between
 within size most e =
-    let h = two (leb 1 size) (leb size most) e in
+    let h = each (leb 1 size) (leb size most) e in
     (leb-true 1 size (h .0), leb-true size most (h .1))
 
 pub record InRange (s : Sizes) : Type 0 where
@@ -27,9 +23,9 @@ pub record InRange (s : Sizes) : Type 0 where
 pub in-range-means : (s : Sizes) → inRange s ≡ true → InRange s
 unfolding inRange
 in-range-means s e =
-    let p = two (between (s .«fragment_size») 1024) _ e in
-    let q = two (between (s .«reassembly_slots») 64) _ (p .1) in
-    let r = two (between (s .«max_fragments») 16) (between (s .«packets_in_flight») 256) (q .1) in
+    let p = each (between (s .«fragment_size») 1024) _ e in
+    let q = each (between (s .«reassembly_slots») 64) _ (p .1) in
+    let r = each (between (s .«max_fragments») 16) (between (s .«packets_in_flight») 256) (q .1) in
     record {
       f = within (s .«fragment_size») 1024 (p .0);
       c = within (s .«reassembly_slots») 64 (q .0);
