@@ -1,0 +1,4 @@
+pub mod Below
+pub mod Sound
+pub mod Planned
+pub mod Passing

@@ -1,0 +1,38 @@
+use borrow.Author.Needs.{needs}
+use Rattle.reassembly.proofs.gate.sound_entry.Statement.{statement}
+use Rattle.reassembly.proofs.gate.sound_entry.Tie as tie
+use mathlib.Core.Path.{_≡_, refl}
+use native.Mathlib.Nat.{mul-le-mul}
+use native.Mathlib.Omega.{arith}
+use borrow.Author.Tests.{eq-eqb, ne-eqb}
+use Rattle.reassembly.specs.Gate.{entrySound}
+use Rattle.reassembly.proofs.Below.{count-ones}
+
+cast-if1 : tie.Need-cast-if1
+cast-if1 c = search needs
+
+cast-if1-2 : tie.Need-cast-if1-2
+cast-if1-2 c = search needs
+
+returns : tie.Need-returns
+unfolding entrySound
+returns c = rw (← count-ones (c .before .before .before .args .entry .ids) (omega arith), ne-eqb _ _ (c .if1 .taken))
+
+cast-result : tie.Need-cast-result
+cast-result c = search needs
+
+cast-result-2 : tie.Need-cast-result-2
+cast-result-2 c = search needs
+
+mul-result : tie.Need-mul-result
+mul-result c =
+    let a = c .before .before .before .before .before .args in
+    omega (arith, mul-le-mul {n₁ = a .f} {m₁ = a .entry .received} {n₂ = 1024} {m₂ = 255} (c .before .before .before .before .before .pre) (omega arith))
+
+returns-2 : tie.Need-returns-2
+unfolding entrySound
+returns-2 c = rw (← count-ones (c .before .before .before .before .before .args .entry .ids) (omega arith), eq-eqb _ _ (c .before .before .if1 .left))
+
+pub sound-entry-spec : {M : Type 1} → statement M
+sound-entry-spec =
+    tie.close (tie.spec cast-if1 cast-if1-2 returns cast-result cast-result-2 mul-result returns-2)

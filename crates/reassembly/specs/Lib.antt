@@ -1,0 +1,5 @@
+pub mod Words
+pub mod Plan
+pub mod Effects
+pub mod Gate
+pub mod Room

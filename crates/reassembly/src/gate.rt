@@ -1,0 +1,105 @@
+// 1, 2 and 13, which every call of a user tries first.
+ghost use mathlib.Core.Path.{_≡_};
+ghost use mathlib.Core.Bool.{_||_};
+ghost use Prim.Native.Nat.{_≤_};
+ghost use lib.Dec.{leb};
+ghost use lib.ListN.{length};
+ghost use Rattle.reassembly.specs.Words.{entryOf};
+ghost use Rattle.reassembly.specs.Gate.{entrySound, sound as soundness, tooShort, gateOf};
+use crate::words::Entry;
+use terms::Refusal;
+use terms::Sizes;
+
+pub enum Gate {
+    Open,
+    Shut(Refusal),
+}
+
+pub fn check(
+    sizes: Sizes,
+    slots: &[u32],
+    entry: &[u64],
+    header: &[u64],
+    bytes: &[u8],
+    output: &[u8],
+) -> Gate
+    ensures { λ r. ⌜ r ≡ gateOf sizes (now (slots .entry)) (now (entry .entry)) (now (header .entry)) (now (bytes .entry)) (now (output .entry)) ⌝ }
+{
+    if !sizes.in_range() {
+        return Gate::Shut(Refusal::BadSizes);
+    }
+    let f = sizes.fragment_size;
+    let c = sizes.reassembly_slots;
+    if too_short(f, c, slots, entry, header, bytes, output) {
+        return Gate::Shut(Refusal::BadStorage);
+    }
+    if !sound(f, &slots[..c], entry) {
+        return Gate::Shut(Refusal::BadState);
+    }
+    Gate::Open
+}
+
+// A lent buffer is shorter than stated. For the crates above: requires F and C in range.
+pub fn too_short(
+    f: usize,
+    c: usize,
+    slots: &[u32],
+    entry: &[u64],
+    header: &[u64],
+    bytes: &[u8],
+    output: &[u8],
+) -> bool
+    requires { ⌜ (f ≤ 1024) × (c ≤ 64) ⌝ }
+    ensures { λ r. ⌜ r ≡ tooShort f c (now (slots .entry)) (now (entry .entry)) (now (header .entry)) (now (bytes .entry)) (now (output .entry)) ⌝ }
+{
+    if slots.len() < c {
+        return true;
+    }
+    if entry.len() < c {
+        return true;
+    }
+    if header.len() < c {
+        return true;
+    }
+    if bytes.len() < c * (16 * f) {
+        return true;
+    }
+    output.len() < 16 * f + 17
+}
+
+// Not 13. For the crates above: requires F in range, and an entry beside each slot.
+pub fn sound(f: usize, slots: &[u32], entry: &[u64]) -> bool
+    requires { ⌜ (f ≤ 1024) × (length (now slots) ≤ length (now entry)) ⌝ }
+    ensures { λ r. ⌜ r ≡ soundness f (now (slots .entry)) (now (entry .entry)) ⌝ }
+{
+    let mut i: usize = 0;
+    while i < slots.len() {
+        if !sound_beside(f, slots[i], entry[i]) {
+            return false;
+        }
+        i += 1;
+    }
+    !keys::has_twice(slots)
+}
+
+// What stands beside a slot without a number may be anything.
+fn sound_beside(f: usize, slot: u32, word: u64) -> bool
+    requires { ⌜ f ≤ 1024 ⌝ }
+    ensures { λ r. ⌜ r ≡ (leb 65536 slot || entrySound f (entryOf word)) ⌝ }
+{
+    if 65536 <= slot {
+        return true;
+    }
+    sound_entry(f, Entry::unpack(word))
+}
+
+// As many fragments were received as ids, and no more bytes than they can have.
+fn sound_entry(f: usize, entry: Entry) -> bool
+    requires { ⌜ f ≤ 1024 ⌝ }
+    ensures { λ r. ⌜ r ≡ entrySound f entry ⌝ }
+{
+    if entry.received as u32 != u32::count_ones(entry.ids as u32) {
+        return false;
+    }
+    entry.joined as usize <= f * (entry.received as usize)
+}
