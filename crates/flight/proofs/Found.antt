@@ -2,28 +2,27 @@
 --     first-le, first-at     the first place of a key
 --     least-found            the least lost number stands in the table
 --     fits-at                a recorded length is not over its slot
-use mathlib.Core.Path.{_≡_, refl, sym, ap, _∙_}
-use mathlib.Core.Bool.{Bool, true, false, cond, _&&_, _||_, or-true}
+use mathlib.Core.Path.{_≡_, refl, sym}
+use mathlib.Core.Bool.{true, false, _&&_, or-true}
 use mathlib.Core.List.{List, [], _∷_}
 use Prim.Native.Nat.{ℕ, zero, suc, _≤_, _<_, zero-le, suc-le-suc}
 use native.Mathlib.Nat.{not-suc-le-zero, le-of-suc-le-suc}
 use native.Mathlib.Omega.{arith}
 use lib.ListN.{length, getD}
 use lib.Dec.{ltb, eqb}
-use borrow.Author.Tests.{lt-ltb, le-ltb, eq-eqb, ne-eqb, eqb-true, eqb-false}
+use borrow.Author.Tests.{lt-ltb, eq-eqb, ne-eqb, eqb-true, eqb-false}
 use Rattle.laws.proofs.Cases.{case, both, lt-or-le}
 use mathlib.Core.Logic.{_⊎_, inl, inr, ⊎-elim}
 use Rattle.keys.specs.Keys.{firstPlace}
-use Rattle.sequence_buffer.specs.Buffer.{none}
 use Rattle.flight.specs.Entry.{lengthOf}
 use Rattle.flight.specs.Places.{overLong}
 use Rattle.flight.specs.Lost.{isLost, leastLost}
 
-first-here : (k x : ℕ) (l : List ℕ) → x ≡ k → firstPlace k (x ∷ l) ≡ 0
+pub first-here : (k x : ℕ) (l : List ℕ) → x ≡ k → firstPlace k (x ∷ l) ≡ 0
 unfolding firstPlace
 first-here k x l e = rw (eq-eqb x k e)
 
-first-later : (k x : ℕ) (l : List ℕ) → (x ≡ k → ⊥) → firstPlace k (x ∷ l) ≡ suc (firstPlace k l)
+pub first-later : (k x : ℕ) (l : List ℕ) → (x ≡ k → ⊥) → firstPlace k (x ∷ l) ≡ suc (firstPlace k l)
 unfolding firstPlace
 first-later k x l e = rw (ne-eqb x k e)
 

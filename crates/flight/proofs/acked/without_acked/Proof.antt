@@ -2,7 +2,7 @@
 use borrow.Author.Needs.{needs}
 use Rattle.flight.proofs.acked.without_acked.Statement.{statement}
 use Rattle.flight.proofs.acked.without_acked.Tie as tie
-use mathlib.Core.Path.{_≡_, refl}
+use mathlib.Core.Path.{refl}
 use borrow.Author.Tests.{lt-ltb, le-ltb, le-leb, lt-leb, eq-eqb, ne-eqb}
 use Rattle.sequence_buffer.specs.Buffer.{emptied}
 use Rattle.flight.specs.Acked.{isAcked}

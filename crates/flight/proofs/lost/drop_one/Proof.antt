@@ -2,19 +2,18 @@
 use borrow.Author.Needs.{needs}
 use Rattle.flight.proofs.lost.drop_one.Statement.{statement}
 use Rattle.flight.proofs.lost.drop_one.Tie as tie
-use mathlib.Core.Path.{_≡_, refl, sym, ap, _∙_}
+use mathlib.Core.Path.{_≡_, refl, ap, _∙_}
 use mathlib.Core.List.{List, _++_}
 use Prim.Native.Nat.{ℕ, _+_, _-_, _*_, _≤_, _<_}
 use native.Mathlib.Nat.{add-sub-cancel-left}
 use native.Mathlib.Omega.{arith}
-use lib.ListN.{length, take, drop, getD}
+use lib.ListN.{length, take, drop}
 use lib.Seq.{take-length}
 use denote.Ref.{now}
 use borrow.Author.Tests.{lt-ltb, le-ltb}
 use Rattle.laws.proofs.Slots.{slot-end, part-length}
 use Rattle.keys.specs.Keys.{firstPlace}
-use Rattle.flight.specs.Entry.{lengthOf}
-use Rattle.flight.specs.Lost.{leastLost, dropOf, numberLeft, outputLeft}
+use Rattle.flight.specs.Lost.{leastLost, dropOf}
 use Rattle.flight.proofs.Found.{first-at, least-found, fits-at}
 
 abbrev least : (c : tie.Start) → ℕ

@@ -2,7 +2,7 @@
 use borrow.Author.Needs.{needs}
 use Rattle.flight.proofs.places.first_free.Statement.{statement}
 use Rattle.flight.proofs.places.first_free.Tie as tie
-use mathlib.Core.Path.{_≡_, refl, sym, ap, _∙_}
+use mathlib.Core.Path.{_≡_, ap, _∙_}
 use Prim.Native.Nat.{ℕ, _+_, _-_, _≤_}
 use native.Mathlib.Nat.{zero-add}
 use native.Mathlib.Omega.{arith}

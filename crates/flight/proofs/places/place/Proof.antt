@@ -2,9 +2,8 @@
 use borrow.Author.Needs.{needs}
 use Rattle.flight.proofs.places.place.Statement.{statement}
 use Rattle.flight.proofs.places.place.Tie as tie
-use mathlib.Core.Path.{_≡_, refl, sym, ap, _∙_}
+use mathlib.Core.Path.{refl}
 use native.Mathlib.Nat.{mod-lt}
-use native.Mathlib.Omega.{arith}
 use lib.ListN.{length}
 use denote.Ref.{now}
 use borrow.Author.Tests.{lt-ltb, le-ltb}

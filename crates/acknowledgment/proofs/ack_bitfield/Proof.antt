@@ -1,0 +1,60 @@
+-- A rung of the ladder for each refusal, then the field.
+use borrow.Author.Needs.{needs}
+use Rattle.acknowledgment.proofs.ack_bitfield.Statement.{statement}
+use Rattle.acknowledgment.proofs.ack_bitfield.Tie as tie
+use mathlib.Core.Path.{_≡_, refl, sym, _∙_}
+use mathlib.Core.Bool.{true, false}
+use native.Mathlib.Omega.{arith}
+use lib.Seq.{length-take-le}
+use denote.Ref.{now}
+use Rattle.laws.proofs.Cases.{on, off}
+use Rattle.terms.specs.Sizes.{inRange}
+use borrow.Author.Tests.{le-leb, lt-leb}
+use Rattle.received.specs.Record.{slotCount}
+use Rattle.acknowledgment.specs.Questions.{toldOf}
+
+in-range : (c : tie.Else1) → inRange (c .before .before .before .args .sizes) ≡ true
+in-range c = sym (c .before .in-range .ensures) ∙ on (c .before .in-range .result) (c .if1 .left)
+
+in-range-requires : tie.Need-in-range-requires
+in-range-requires c κs = search needs
+
+returns : tie.Need-returns
+unfolding toldOf
+returns c =
+    let out : inRange (c .before .before .before .args .sizes) ≡ false = sym (c .before .in-range .ensures) ∙ off (c .before .in-range .result) (c .if1 .taken) in
+    rw out
+
+returns-2 : tie.Need-returns-2
+unfolding toldOf
+returns-2 c = rw (in-range (c .before), lt-leb _ _ (c .if2 .taken))
+
+slice-aggregate-has-twice : tie.Need-slice-aggregate-has-twice
+slice-aggregate-has-twice c = omega (arith, length-take-le slotCount (now (c .before .before .before .before .before .args .received)) (c .before .if2 .left))
+
+has-twice-requires : tie.Need-has-twice-requires
+has-twice-requires c κs = search needs
+
+returns-3 : tie.Need-returns-3
+unfolding toldOf
+returns-3 c = rw (in-range (c .before .before .before .before), le-leb _ _ (c .before .before .before .if2 .left), ← c .before .has-twice .ensures, c .if3 .taken)
+
+ack-bitfield-requires : tie.Need-ack-bitfield-requires
+ack-bitfield-requires c κs = search needs
+
+returns-4 : tie.Need-returns-4
+unfolding toldOf
+returns-4 c = rw (in-range (c .before .before .before .before .before), le-leb _ _ (c .before .before .before .before .if2 .left), ← c .before .before .has-twice .ensures, c .before .if3 .left, c .ack-bitfield .ensures)
+
+pub ack-bitfield-spec : {M : Type 1} → statement M
+ack-bitfield-spec =
+    tie.close
+    (tie.spec
+    in-range-requires
+    returns
+    returns-2
+    slice-aggregate-has-twice
+    has-twice-requires
+    returns-3
+    ack-bitfield-requires
+    returns-4)

@@ -1,0 +1,4 @@
+pub mod State
+pub mod Gate
+pub mod Calls
+pub mod Questions

@@ -1,0 +1,30 @@
+-- Document 01, module 2: what an end is asked.
+use Prim.Native.Nat.{ℕ}
+use mathlib.Core.Bool.{not}
+use mathlib.Core.List.{List}
+use lib.ListN.{length}
+use lib.Dec.{leb}
+use Rattle.keys.specs.Keys.{twice}
+use Rattle.terms.specs.declared.Sizes.{Sizes}
+use Rattle.received.specs.Record.{slotCount, slotsOf}
+use Rattle.received.specs.Field.{fieldOf}
+use Rattle.flight.specs.Places.{countOf, sound as flightSound}
+use Rattle.acknowledgment.specs.State.{tableOf, slotOf}
+use Rattle.acknowledgment.specs.Gate.{flightLent, gated}
+use Rattle.acknowledgment.specs.declared.Acknowledgment.{Acknowledgment}
+use Rattle.acknowledgment.specs.declared.InFlight.{InFlight}
+use Rattle.acknowledgment.specs.declared.InFlight.the-variants.{Packets, Refused as NotCounted}
+use Rattle.acknowledgment.specs.declared.AckBitfield.{AckBitfield}
+use Rattle.acknowledgment.specs.declared.AckBitfield.the-variants.{Field, Refused as NotTold}
+
+-- how many packets are in flight
+unfoldable pub countedOf : Sizes → List ℕ → List ℕ → InFlight
+countedOf z number records =
+    gated z (flightLent z number records) (flightSound (slotOf z) (tableOf z number) records) NotCounted
+    (Packets (countOf (tableOf z number)))
+
+-- the field
+unfoldable pub toldOf : Sizes → Acknowledgment → List ℕ → AckBitfield
+toldOf z c received =
+    gated z (leb slotCount (length received)) (not (twice (slotsOf received))) NotTold
+    (Field (fieldOf (c .received .0) (slotsOf received)))
