@@ -1,0 +1,26 @@
+use borrow.Author.Needs.{needs}
+use Rattle.arrivals.proofs.text.written_out.Statement.{statement}
+use Rattle.arrivals.proofs.text.written_out.Tie as tie
+use mathlib.Core.Path.{sym}
+use native.Mathlib.Omega.{arith}
+use lib.Seq.{length-take-le}
+use denote.Ref.{now}
+
+returns : tie.Need-returns
+returns c = search needs
+
+slice-aggregate-write-all : tie.Need-slice-aggregate-write-all
+slice-aggregate-write-all c = sym (length-take-le (c .before .before .before .before .args .at) (now (c .before .before .before .before .args .text)) (omega arith))
+
+write-all-requires : tie.Need-write-all-requires
+write-all-requires c κs = search needs
+
+returns-2 : tie.Need-returns-2
+returns-2 c = search needs
+
+returns-3 : tie.Need-returns-3
+returns-3 c = search needs
+
+pub written-out-spec : {M : Type 1} → statement M
+written-out-spec =
+    tie.close (tie.spec returns slice-aggregate-write-all write-all-requires returns-2 returns-3)
