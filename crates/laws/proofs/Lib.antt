@@ -3,3 +3,4 @@ pub mod Cases
 pub mod Lists
 pub mod Paste
 pub mod Slots
+pub mod Tabled
