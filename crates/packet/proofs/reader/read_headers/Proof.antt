@@ -1,0 +1,80 @@
+-- The ladder of tests, in the order of `readOf`.
+use borrow.Author.Needs.{needs}
+use Rattle.packet.proofs.reader.read_headers.Statement.{statement}
+use Rattle.packet.proofs.reader.read_headers.Tie as tie
+use mathlib.Core.Path.{refl}
+use borrow.Author.Tests.{lt-ltb, le-ltb}
+use Rattle.packet.specs.Read.{readOf}
+
+returns : tie.Need-returns
+unfolding readOf
+returns c = rw (lt-ltb _ _ (c .if1 .taken))
+
+is-unknown-requires : tie.Need-is-unknown-requires
+is-unknown-requires c κs = search needs
+
+returns-2 : tie.Need-returns-2
+unfolding readOf
+returns-2 c =
+    let u = c .before .is-unknown in
+    rw (le-ltb _ _ (c .before .before .if1 .left), ← u .ensures, c .if2 .taken)
+
+read-standard-header-requires : tie.Need-read-standard-header-requires
+read-standard-header-requires c κs = search needs
+
+headers-after-requires : tie.Need-headers-after-requires
+headers-after-requires c κs = search needs
+
+sub-is-misfit : tie.Need-sub-is-misfit
+sub-is-misfit c = search needs
+
+is-misfit-requires : tie.Need-is-misfit-requires
+is-misfit-requires c κs = search needs
+
+returns-3 : tie.Need-returns-3
+unfolding readOf
+returns-3 c =
+    let u = c .before .before .before .before .before .is-unknown in
+    let m = c .before .is-misfit in
+    rw (
+      le-ltb _ _ (c .before .before .before .before .before .before .if1 .left),
+      ← u .ensures,
+      c .before .before .before .before .if2 .left,
+      ← c .before .before .before .read-standard-header .ensures,
+      ← c .before .before .headers-after .ensures,
+      ← m .ensures,
+      c .if3 .taken,
+    )
+
+read-following-requires : tie.Need-read-following-requires
+read-following-requires c κs = search needs
+
+returns-4 : tie.Need-returns-4
+unfolding readOf
+returns-4 c =
+    let u = c .before .before .before .before .before .before .is-unknown in
+    let m = c .before .before .is-misfit in
+    rw (
+      le-ltb _ _ (c .before .before .before .before .before .before .before .if1 .left),
+      ← u .ensures,
+      c .before .before .before .before .before .if2 .left,
+      ← c .before .before .before .before .read-standard-header .ensures,
+      ← c .before .before .before .headers-after .ensures,
+      ← m .ensures,
+      c .before .if3 .left,
+    ) (c .read-following .ensures)
+
+pub read-headers-spec : {M : Type 1} → statement M
+read-headers-spec =
+    tie.close
+    (tie.spec
+    returns
+    is-unknown-requires
+    returns-2
+    read-standard-header-requires
+    headers-after-requires
+    sub-is-misfit
+    is-misfit-requires
+    returns-3
+    read-following-requires
+    returns-4)

@@ -1,0 +1,38 @@
+-- What a builder answers, and what it leaves in the output.
+use Prim.Native.Nat.{ℕ, _+_}
+use mathlib.Core.Path.{_≡_}
+use mathlib.Core.Bool.{cond}
+use mathlib.Core.List.{List, _++_}
+use lib.ListN.{length, take, drop}
+use lib.Dec.{ltb}
+use Rattle.terms.specs.declared.Refusal.the-variants.{BadStorage, BadHeader}
+use Rattle.packet.specs.declared.Headers.{Headers}
+use Rattle.packet.specs.declared.table.Following.{Following}
+use Rattle.packet.specs.declared.Built.{Built}
+use Rattle.packet.specs.declared.Built.the-variants.{Datagram, Refused}
+use Rattle.packet.specs.Table.{follows}
+use Rattle.packet.specs.Layout.{payloadAt, datagram}
+use Rattle.packet.specs.Read.{misfit}
+
+-- 4 first: a combination that is not listed has no length that 2 could be judged by
+unfoldable pub buildOf : Headers → List ℕ → List ℕ → Built
+buildOf h payload output =
+    let f : Following = follows (h .standard) in
+    let end : ℕ = payloadAt f (h .fragment .id) + length payload in
+    cond (misfit (h .standard) f (length payload)) (Refused BadHeader)
+    (cond (ltb (length output) end) (Refused BadStorage)
+    (Datagram end))
+
+-- "bytes after an item stay"; a refusal leaves all unchanged
+abbrev pub leaves : Built → List ℕ → List ℕ → List ℕ
+leaves (Datagram end) d output = d ++ drop end output
+leaves (Refused why) d output = output
+
+-- what the builder answers and leaves
+pub record Builds (v : ℕ) (h : Headers) (payload output : List ℕ) (answer : Built) (after : List ℕ) : Type 0 where
+  pub answers : answer ≡ buildOf h payload output
+  pub leaves-output : after ≡ leaves (buildOf h payload output) (datagram v h payload) output
+
+-- the output with these bytes at a place
+unfoldable pub written : ℕ → List ℕ → List ℕ → List ℕ
+written at b output = take at output ++ (b ++ drop (at + length b) output)

@@ -1,0 +1,5 @@
+pub mod Numbers
+pub mod Table
+pub mod Layout
+pub mod Read
+pub mod Build
