@@ -4,3 +4,7 @@ pub mod Rule
 pub mod Stages
 pub mod Lengths
 pub mod Whole
+pub mod Parsed
+pub mod Reprinted
+pub mod Laws
+pub mod Theorems

@@ -3,3 +3,4 @@ pub mod Table
 pub mod Layout
 pub mod Read
 pub mod Build
+pub mod Inverse

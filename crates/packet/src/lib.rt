@@ -1,6 +1,7 @@
 // The headers of a datagram: read from its bytes, and built into them with a payload.
 // Read `read_headers` and `build` first; which headers follow the standard one is the table in table.rt. It leaves out what a
 // link does with a packet, and it never holds a payload: what is read says where the payload starts.
+ghost use Rattle.packet.specs.Inverse.{Inverse, AcceptsLayouts};
 use serial::ItemId;
 use serial::PacketNumber;
 use terms::Refusal;
@@ -88,3 +89,13 @@ pub enum Built {
     Datagram(usize),
     Refused(Refusal),
 }
+
+// What is built reads back, and what is read, built again, is the same datagram. It has no code: its contract is the theorem.
+pub fn reader_and_builder_are_inverse()
+    ensures { λ _. ⌜ Inverse ⌝ }
+{}
+
+// What the reader accepts is exactly the listed layouts. It has no code: its contract is the theorem.
+pub fn reader_accepts_listed_layouts()
+    ensures { λ _. ⌜ AcceptsLayouts ⌝ }
+{}

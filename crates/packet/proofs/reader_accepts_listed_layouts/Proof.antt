@@ -1,0 +1,11 @@
+-- The theorem is `accepts`.
+use borrow.Author.Needs.{needs}
+use Rattle.packet.proofs.reader_accepts_listed_layouts.Statement.{statement}
+use Rattle.packet.proofs.reader_accepts_listed_layouts.Tie as tie
+use Rattle.packet.proofs.Theorems.{accepts}
+
+returns : tie.Need-returns
+returns c = accepts
+
+pub reader-accepts-listed-layouts-spec : {M : Type 1} → statement M
+reader-accepts-listed-layouts-spec = tie.close (tie.spec returns)

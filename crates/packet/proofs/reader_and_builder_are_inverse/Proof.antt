@@ -1,0 +1,11 @@
+-- The theorem is `inverse`.
+use borrow.Author.Needs.{needs}
+use Rattle.packet.proofs.reader_and_builder_are_inverse.Statement.{statement}
+use Rattle.packet.proofs.reader_and_builder_are_inverse.Tie as tie
+use Rattle.packet.proofs.Theorems.{inverse}
+
+returns : tie.Need-returns
+returns c = inverse
+
+pub reader-and-builder-are-inverse-spec : {M : Type 1} → statement M
+reader-and-builder-are-inverse-spec = tie.close (tie.spec returns)
