@@ -3,12 +3,17 @@ use borrow.Author.Needs.{needs}
 use Rattle.packet.proofs.reader.read_headers.Statement.{statement}
 use Rattle.packet.proofs.reader.read_headers.Tie as tie
 use mathlib.Core.Path.{refl}
+use Prim.Native.Nat.{_<_}
+use lib.ListN.{length}
+use native.Mathlib.Omega.{arith}
 use borrow.Author.Tests.{lt-ltb, le-ltb}
 use Rattle.packet.specs.Read.{readOf}
 
 returns : tie.Need-returns
 unfolding readOf
-returns c = rw (lt-ltb _ _ (c .if1 .taken))
+returns c =
+    let short : length (c .before .before .args .datagram .now) < 5 = omega arith in
+    rw (lt-ltb _ _ short)
 
 is-unknown-requires : tie.Need-is-unknown-requires
 is-unknown-requires c κs = search needs
@@ -62,7 +67,8 @@ returns-4 c =
       ← c .before .before .before .headers-after .ensures,
       ← m .ensures,
       c .before .if3 .left,
-    ) (c .read-following .ensures)
+    )
+    (c .read-following .ensures)
 
 pub read-headers-spec : {M : Type 1} → statement M
 read-headers-spec =
