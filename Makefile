@@ -1,9 +1,12 @@
 # Short names for what the README tells. Each does all its set-up.
 .PHONY: run test compare bench fmt reasons
 
-# The main job: prove every crate.
+# The main job: the arrival listing, of indices of two bytes. INPUT=FILE lists a file of yours, INPUT=/dev/stdin a pipe.
+# The program is proved first, which takes a minute or two the first time.
+INPUT ?= crates/arrivals/stdin
 run:
-	rt check
+	@mkdir -p target && rt check arrivals >target/run.log || { cat target/run.log; exit 1; }
+	@tools/run-program arrivals <$(INPUT)
 
 # Everything: the gate that a change must pass.
 test:

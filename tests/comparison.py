@@ -5,8 +5,6 @@ import argparse
 import itertools
 import os
 import pathlib
-import platform
-import shutil
 import subprocess
 import sys
 
@@ -22,16 +20,9 @@ MARKED_CASES = ROOT / "tests/marked-cases.hex"
 
 
 def port():
-    """The port's program, under the loader that the kit runs programs with, and where that is for
-    another processor under its emulator."""
-    if os.environ.get("REPLAY"):
-        return [os.environ["REPLAY"]]
-    kit = os.environ.get("RATTLE_HOME") or pathlib.Path(shutil.which("rt")).resolve().parent.parent
-    tools = pathlib.Path(kit) / "on" / platform.machine() / "toolchain"
-    emulator = tools / "bin/qemu-x86_64"
-    loader = [tools / "lib/ld-linux-x86-64.so.2", "--library-path", tools / "lib"]
-    words = [emulator] * emulator.exists() + loader + [ROOT / "target/bin/replay"]
-    return [str(word) for word in words]
+    """The port's program, or the one that is set in its place."""
+    given = os.environ.get("REPLAY")
+    return [given] if given else [str(ROOT / "tools/run-program"), "replay"]
 
 
 def lines(program, said):
