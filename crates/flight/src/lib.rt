@@ -7,6 +7,7 @@ ghost use Prim.Native.Nat.{_+_, _*_, _≤_, _<_};
 ghost use lib.ListN.{length, set};
 ghost use lib.Seq.{paste};
 ghost use Rattle.flight.specs.Entry.{packed};
+ghost use Rattle.flight.specs.View.{FlightFacts};
 use serial::ItemId;
 use serial::PacketNumber;
 
@@ -44,3 +45,8 @@ pub fn store(
     number[at] = packet.0 as u32;
     records[at] = entry::pack(sent, count as u16);
 }
+
+// What each call makes of the packets in flight, number by number. It has no code: its contract is the theorem.
+pub fn flight_facts()
+    ensures { λ _. ⌜ FlightFacts ⌝ }
+{}
