@@ -1,3 +1,4 @@
 pub mod Gates
 pub mod Kept
 pub mod Drops
+pub mod Unbroken

@@ -7,6 +7,7 @@ use lib.ListN.{length, set, drop}
 use lib.Seq.{paste}
 use lib.Dec.{ltb, leb, eqb}
 use Rattle.terms.specs.declared.Sizes.{Sizes}
+use Rattle.terms.specs.Refusals.{numberOf}
 use Rattle.terms.specs.declared.Refusal.the-variants.{TooLong, ExceededMaxFragments, Full}
 use Rattle.sequence_buffer.specs.Buffer.{emptied}
 use Rattle.received.specs.Record.{recorded}
@@ -29,6 +30,16 @@ isLent z s = lent z (s .received) (s .number) (s .records) (s .bytes)
 
 abbrev pub isSound : Sizes → State → Bool
 isSound z s = sound z (s .received) (s .number) (s .records)
+
+-- 01's number of each answer, 0 where nothing is refused
+abbrev pub numberOfProcessed : Processed → ℕ
+numberOfProcessed (Done c) = 0
+numberOfProcessed (Refused why) = numberOf why
+
+abbrev pub numberOfDropped : DroppedPackets → ℕ
+numberOfDropped Nothing = 0
+numberOfDropped (Packet d) = 0
+numberOfDropped (NotDropped why) = numberOf why
 
 -- what is left: the new where the call is done, the old where it is refused
 abbrev pub kept : {A : Type 0} → Processed → A → A → A

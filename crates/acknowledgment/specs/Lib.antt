@@ -2,3 +2,4 @@ pub mod State
 pub mod Gate
 pub mod Calls
 pub mod Questions
+pub mod Runs

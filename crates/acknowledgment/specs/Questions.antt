@@ -5,6 +5,7 @@ use mathlib.Core.List.{List}
 use lib.ListN.{length}
 use lib.Dec.{leb}
 use Rattle.keys.specs.Keys.{twice}
+use Rattle.terms.specs.Refusals.{numberOf}
 use Rattle.terms.specs.declared.Sizes.{Sizes}
 use Rattle.received.specs.Record.{slotCount, slotsOf}
 use Rattle.received.specs.Field.{fieldOf}
@@ -16,6 +17,15 @@ use Rattle.acknowledgment.specs.declared.InFlight.{InFlight}
 use Rattle.acknowledgment.specs.declared.InFlight.the-variants.{Packets, Refused as NotCounted}
 use Rattle.acknowledgment.specs.declared.AckBitfield.{AckBitfield}
 use Rattle.acknowledgment.specs.declared.AckBitfield.the-variants.{Field, Refused as NotTold}
+
+-- 01's number of each answer, 0 where nothing is refused
+abbrev pub numberOfCounted : InFlight → ℕ
+numberOfCounted (Packets n) = 0
+numberOfCounted (NotCounted why) = numberOf why
+
+abbrev pub numberOfTold : AckBitfield → ℕ
+numberOfTold (Field f) = 0
+numberOfTold (NotTold why) = numberOf why
 
 -- how many packets are in flight
 unfoldable pub countedOf : Sizes → List ℕ → List ℕ → InFlight

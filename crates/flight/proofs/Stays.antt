@@ -47,7 +47,7 @@ module _ (room : ℕ) (number records : List ℕ) where
       go true e = both {b = false} (sym (sym e)) refl
       go false e = off (twice number) e
 
-  sound-of : overLong room number records ≡ false → twice number ≡ false → sound room number records ≡ true
+  pub sound-of : overLong room number records ≡ false → twice number ≡ false → sound room number records ≡ true
   unfolding sound
   sound-of e q = rw (e, q)
 
