@@ -1,0 +1,114 @@
+-- The ordered streams of an end: stream j has the places 64 j to 64 j + 63 of the tables, and 64 * F bytes from j * (64 * F) on.
+use Prim.Native.Nat.{ℕ, _+_, _*_, _≤_, _<_}
+use mathlib.Core.Bool.{cond}
+use mathlib.Core.List.{List, _++_}
+use mathlib.Core.Path.{_≡_}
+use lib.Dec.{ltb, eqb}
+use lib.ListN.{length, getD, take, drop, set, replicate}
+use Rattle.terms.specs.declared.Refusal.the-variants.{NoStream}
+use Rattle.ordering.specs.Arrange.{planOf, arranged}
+use Rattle.ordering.specs.declared.OrderingStream.{OrderingStream}
+use Rattle.ordering.specs.declared.Arranged.{Arranged}
+use Rattle.ordering.specs.declared.Arranged.the-variants.{Out, Held, Old, Refused}
+use Rattle.ordering.specs.State.{State, lending, fresh, written, numbered}
+use Rattle.ordering.specs.Take.{nextOf, takenOut, taken}
+use Rattle.ordering.specs.Room.{Room}
+use Rattle.ordering.specs.declared.Taken.{Taken}
+use Rattle.ordering.specs.declared.Taken.the-variants.{Item, Nothing, Refused as NotTaken}
+use Rattle.arranging.specs.Ids.{placeOf, madeAt, noIds}
+use Rattle.arranging.specs.declared.ordered.Planned.{Planned}
+use Rattle.arranging.specs.declared.ordered.AfterTake.{AfterTake}
+use Rattle.arranging.specs.declared.ordered.NewItem.{NewItem}
+use Rattle.arranging.specs.declared.ordered.OrderingStreams.{OrderingStreams}
+
+-- the n entries of a table from a on, and a table with others there
+abbrev pub part : List ℕ → ℕ → ℕ → List ℕ
+part d a n = take n (drop a d)
+
+abbrev pub put : List ℕ → ℕ → ℕ → List ℕ → List ℕ
+put d a n p = take a d ++ (p ++ drop n (drop a d))
+
+abbrev pub noStreams : OrderingStreams
+noStreams = record { known = noIds; streams = replicate 4 fresh }
+
+-- all ordered streams, whole: their counters, and the tables and bytes that they are lent
+pub record States : Type 0 where
+  pub counters : OrderingStreams
+  pub index : List ℕ
+  pub lengths : List ℕ
+  pub bytes : List ℕ
+
+abbrev pub lendingAll : OrderingStreams → List ℕ → List ℕ → List ℕ → States
+lendingAll s index lengths bytes = record { counters = s; index = index; lengths = lengths; bytes = bytes }
+
+-- the counters at place j: a stream that is not made yet is fresh
+unfoldable pub streamAt : OrderingStreams → ℕ → OrderingStream
+streamAt s j = cond (ltb j (s .known .made)) (getD (s .streams) j fresh) fresh
+
+-- stream j of them; f is F
+abbrev pub stateAt : ℕ → States → ℕ → State
+stateAt f s j =
+    lending (streamAt (s .counters) j) (part (s .index) (j * 64) 64) (part (s .lengths) (j * 64) 64) (part (s .bytes) (j * (64 * f)) (64 * f))
+
+-- stream j is t now, under that id
+abbrev pub storedAt : ℕ → States → ℕ → ℕ → State → States
+storedAt f s j id t =
+    record {
+      counters = record { known = madeAt (s .counters .known) j id; streams = set (s .counters .streams) j (t .stream) };
+      index = put (s .index) (j * 64) 64 (t .index);
+      lengths = put (s .lengths) (j * 64) 64 (t .lengths);
+      bytes = put (s .bytes) (j * (64 * f)) (64 * f) (t .bytes);
+    }
+
+-- what a call leaves, in the counters and in each buffer, is s
+pub record LeavesAll (s : States) (counters : OrderingStreams) (index lengths bytes : List ℕ) : Type 0 where
+  pub counters-are : counters ≡ s .counters
+  pub index-is : index ≡ s .index
+  pub lengths-are : lengths ≡ s .lengths
+  pub bytes-are : bytes ≡ s .bytes
+
+-- what the functions for the crates above require: sound streams in enough storage
+pub record RoomForAll (f : ℕ) (s : States) : Type 0 where
+  pub four : s .counters .known .made ≤ 4
+  pub small : f ≤ 1024
+  pub indices : 256 ≤ length (s .index)
+  pub lengths : 256 ≤ length (s .lengths)
+  pub bytes : 4 * (64 * f) ≤ length (s .bytes)
+  pub each : (j : ℕ) → j < 4 → Room f (stateAt f s j)
+
+-- an item comes on the stream with an id: 7 where it would be a fifth, else what module 4 says
+unfoldable pub planOn : OrderingStreams → List ℕ → ℕ → ℕ → Planned
+planOn s index id i =
+    cond (eqb (placeOf (s .known) id) 4) (record { at = 4; plan = Refused NoStream })
+    (record { at = placeOf (s .known) id; plan = planOf (streamAt s (placeOf (s .known) id)) (part index (placeOf (s .known) id * 64) 64) i })
+
+-- "a stream is made by its first accepted item": a refused one makes none and changes nothing
+abbrev pub arrangedOn : Arranged → ℕ → ℕ → ℕ → ℕ → List ℕ → States → States
+arrangedOn Out j f id i payload s = storedAt f s j id (arranged Out f i payload (stateAt f s j))
+arrangedOn (Held k) j f id i payload s = storedAt f s j id (arranged (Held k) f i payload (stateAt f s j))
+arrangedOn Old j f id i payload s = storedAt f s j id (arranged Old f i payload (stateAt f s j))
+arrangedOn (Refused why) j f id i payload s = s
+
+-- the item that is expected on the stream with an id; on one that is not made there is none
+unfoldable pub nextOn : ℕ → States → ℕ → Taken
+nextOn f s id =
+    cond (ltb (placeOf (s .counters .known) id) (s .counters .known .made)) (nextOf (stateAt f s (placeOf (s .counters .known) id))) Nothing
+
+abbrev pub takenOn : Taken → ℕ → ℕ → States → States
+takenOn (Item n) f id s =
+    storedAt f s (placeOf (s .counters .known) id) id (taken (Item n) f (stateAt f s (placeOf (s .counters .known) id)))
+takenOn Nothing f id s = s
+takenOn (NotTaken why) f id s = s
+
+pub record TakesOn (f : ℕ) (s : States) (id : ℕ) (output : List ℕ) (r : AfterTake) (index lengths bytes out : List ℕ) : Type 0 where
+  pub answer-is : r .answer ≡ nextOn f s id
+  pub leaves : LeavesAll (takenOn (nextOn f s id) f id s) (r .streams) index lengths bytes
+  pub output-is : out ≡ written (takenOut (nextOn f s id) f (stateAt f s (placeOf (s .counters .known) id))) output
+
+-- an item is sent on the stream at place j: it is made, and its next identifier is taken
+abbrev pub numberedAt : OrderingStreams → ℕ → ℕ → NewItem
+numberedAt s j id =
+    record {
+      item = numbered (streamAt s j) .item;
+      streams = record { known = madeAt (s .known) j id; streams = set (s .streams) j (numbered (streamAt s j) .stream) };
+    }
