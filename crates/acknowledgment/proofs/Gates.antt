@@ -1,12 +1,12 @@
 -- What is known once 1, 2 and 13 have been passed. Assumes nothing.
-use mathlib.Core.Path.{_≡_, refl}
-use mathlib.Core.Bool.{Bool, true, false, not, _&&_}
+use mathlib.Core.Path.{_≡_}
+use mathlib.Core.Bool.{true, false, not, _&&_}
 use mathlib.Core.List.{List}
 use Prim.Native.Nat.{ℕ, _*_, _≤_}
 use lib.ListN.{length}
 use lib.Dec.{leb}
 use borrow.Author.Tests.{leb-true}
-use Rattle.laws.proofs.Cases.{both, off}
+use Rattle.laws.proofs.Cases.{each, off}
 use Rattle.keys.specs.Keys.{twice}
 use Rattle.terms.specs.declared.Sizes.{Sizes}
 use Rattle.received.specs.Record.{slotCount, slotsOf}
@@ -14,15 +14,11 @@ use Rattle.flight.specs.Places.{overLong, sound as flightSound}
 use Rattle.acknowledgment.specs.State.{tableOf, slotOf}
 use Rattle.acknowledgment.specs.Gate.{flightLent, lent, sound}
 
-pub two : (a b : Bool) → (a && b) ≡ true → (a ≡ true) × (b ≡ true)
-two true b e = (refl, e)
-two false b e = both e refl
-
 pub flight-means : (z : Sizes) (number records : List ℕ) → flightLent z number records ≡ true
     → (z .«packets_in_flight» ≤ length number) × (z .«packets_in_flight» ≤ length records)
 unfolding flightLent
 flight-means z number records e =
-    let h = two (leb (z .«packets_in_flight») (length number)) (leb (z .«packets_in_flight») (length records)) e in
+    let h = each (leb (z .«packets_in_flight») (length number)) (leb (z .«packets_in_flight») (length records)) e in
     (leb-true (z .«packets_in_flight») (length number) (h .0), leb-true (z .«packets_in_flight») (length records) (h .1))
 
 pub record Lent (z : Sizes) (received number records bytes : List ℕ) : Type 0 where
@@ -34,8 +30,8 @@ pub record Lent (z : Sizes) (received number records bytes : List ℕ) : Type 0 
 pub lent-means : (z : Sizes) (received number records bytes : List ℕ) → lent z received number records bytes ≡ true → Lent z received number records bytes
 unfolding lent
 lent-means z received number records bytes e =
-    let p = two (leb slotCount (length received)) (flightLent z number records && leb (z .«packets_in_flight» * slotOf z) (length bytes)) e in
-    let q = two (flightLent z number records) (leb (z .«packets_in_flight» * slotOf z) (length bytes)) (p .1) in
+    let p = each (leb slotCount (length received)) (flightLent z number records && leb (z .«packets_in_flight» * slotOf z) (length bytes)) e in
+    let q = each (flightLent z number records) (leb (z .«packets_in_flight» * slotOf z) (length bytes)) (p .1) in
     let f = flight-means z number records (q .0) in
     record {
       slots = leb-true slotCount (length received) (p .0);
@@ -52,8 +48,8 @@ pub record Sound (z : Sizes) (received number records : List ℕ) : Type 0 where
 pub sound-means : (z : Sizes) (received number records : List ℕ) → sound z received number records ≡ true → Sound z received number records
 unfolding sound flightSound
 sound-means z received number records e =
-    let p = two (not (twice (slotsOf received))) (not (overLong (slotOf z) (tableOf z number) records) && not (twice (tableOf z number))) e in
-    let q = two (not (overLong (slotOf z) (tableOf z number) records)) (not (twice (tableOf z number))) (p .1) in
+    let p = each (not (twice (slotsOf received))) (not (overLong (slotOf z) (tableOf z number) records) && not (twice (tableOf z number))) e in
+    let q = each (not (overLong (slotOf z) (tableOf z number) records)) (not (twice (tableOf z number))) (p .1) in
     record {
       once-received = off (twice (slotsOf received)) (p .0);
       fits = off (overLong (slotOf z) (tableOf z number) records) (q .0);
