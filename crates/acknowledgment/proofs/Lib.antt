@@ -1,4 +1,3 @@
 pub mod Gates
 pub mod Kept
 pub mod Drops
-pub mod Unbroken

@@ -2,4 +2,3 @@ pub mod State
 pub mod Gate
 pub mod Calls
 pub mod Questions
-pub mod Runs

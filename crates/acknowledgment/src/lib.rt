@@ -10,7 +10,6 @@ ghost use Rattle.received.specs.Field.{newestOf};
 ghost use Rattle.acknowledgment.specs.State.{freshCounters, lending};
 ghost use Rattle.acknowledgment.specs.Calls.{Incoming, Outgoing, answeredBy, Dropping};
 ghost use Rattle.acknowledgment.specs.Questions.{countedOf, toldOf};
-ghost use Rattle.acknowledgment.specs.Runs.{NeverBroken};
 use flight::SentPacket;
 use flight::lost::Drop;
 use flight::lost::Dropped;
@@ -220,8 +219,3 @@ pub fn ack_bitfield(sizes: Sizes, state: Acknowledgment, received: &[u32]) -> Ac
     }
     AckBitfield::Field(received::ack_bitfield(state.received, received))
 }
-
-// From a fresh end neither 2 nor 13 arises, whatever is called. It has no code: its contract is the theorem.
-pub fn never_broken()
-    ensures { λ _. ⌜ NeverBroken ⌝ }
-{}
