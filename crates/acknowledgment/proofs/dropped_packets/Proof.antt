@@ -68,7 +68,7 @@ is-lent-requires : tie.Need-is-lent-requires
 is-lent-requires c κs = in-range (c .before)
 
 same-length : tie.Need-same-length
-same-length c = search needs
+same-length c = refl
 
 returns-2 : tie.Need-returns-2
 unfolding droppedOf
@@ -83,7 +83,7 @@ add-if3 : tie.Need-add-if3
 add-if3 c = let h = sizes (c .before .before .before .before) in omega (arith, h .f)
 
 same-length-2 : tie.Need-same-length-2
-same-length-2 c = search needs
+same-length-2 c = refl
 
 returns-3 : tie.Need-returns-3
 unfolding droppedOf
@@ -95,7 +95,7 @@ is-sound-requires c κs =
     (in-range (c .before .before .before .before .before .before), l .slots, l .numbers, l .recorded)
 
 same-length-3 : tie.Need-same-length-3
-same-length-3 c = search needs
+same-length-3 c = refl
 
 returns-4 : tie.Need-returns-4
 unfolding droppedOf

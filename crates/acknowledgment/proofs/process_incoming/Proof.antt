@@ -49,10 +49,10 @@ is-lent-requires : tie.Need-is-lent-requires
 is-lent-requires c κs = in-range (c .before .before)
 
 same-length : tie.Need-same-length
-same-length c = search needs
+same-length c = refl
 
 same-length-2 : tie.Need-same-length-2
-same-length-2 c = search needs
+same-length-2 c = refl
 
 returns-2 : tie.Need-returns-2
 unfolding incomingOf
@@ -66,10 +66,10 @@ is-sound-requires c κs =
     (in-range (c .before .before .before .before .before .before), l .slots, l .numbers, l .recorded)
 
 same-length-3 : tie.Need-same-length-3
-same-length-3 c = search needs
+same-length-3 c = refl
 
 same-length-4 : tie.Need-same-length-4
-same-length-4 c = search needs
+same-length-4 c = refl
 
 returns-3 : tie.Need-returns-3
 unfolding incomingOf

@@ -78,13 +78,13 @@ is-lent-requires : tie.Need-is-lent-requires
 is-lent-requires c κs = in-range (c .before .before .before)
 
 same-length : tie.Need-same-length
-same-length c = search needs
+same-length c = refl
 
 same-length-2 : tie.Need-same-length-2
-same-length-2 c = search needs
+same-length-2 c = refl
 
 same-length-3 : tie.Need-same-length-3
-same-length-3 c = search needs
+same-length-3 c = refl
 
 returns-2 : tie.Need-returns-2
 unfolding outgoingOf
@@ -98,13 +98,13 @@ is-sound-requires c κs =
     (in-range (c .before .before .before .before .before .before .before), l .slots, l .numbers, l .recorded)
 
 same-length-4 : tie.Need-same-length-4
-same-length-4 c = search needs
+same-length-4 c = refl
 
 same-length-5 : tie.Need-same-length-5
-same-length-5 c = search needs
+same-length-5 c = refl
 
 same-length-6 : tie.Need-same-length-6
-same-length-6 c = search needs
+same-length-6 c = refl
 
 returns-3 : tie.Need-returns-3
 unfolding outgoingOf
@@ -116,13 +116,13 @@ is-too-long-requires : tie.Need-is-too-long-requires
 is-too-long-requires c κs = search needs
 
 same-length-7 : tie.Need-same-length-7
-same-length-7 c = search needs
+same-length-7 c = refl
 
 same-length-8 : tie.Need-same-length-8
-same-length-8 c = search needs
+same-length-8 c = refl
 
 same-length-9 : tie.Need-same-length-9
-same-length-9 c = search needs
+same-length-9 c = refl
 
 returns-4 : tie.Need-returns-4
 unfolding outgoingOf
@@ -137,13 +137,13 @@ mul-if5 c =
     record { fits = omega (arith, mul-le-mul {n₁ = z .«max_fragments»} {m₁ = z .«fragment_size»} {n₂ = 16} {m₂ = 1024} (h .m .1) (h .f .1)) }
 
 same-length-10 : tie.Need-same-length-10
-same-length-10 c = search needs
+same-length-10 c = refl
 
 same-length-11 : tie.Need-same-length-11
-same-length-11 c = search needs
+same-length-11 c = refl
 
 same-length-12 : tie.Need-same-length-12
-same-length-12 c = search needs
+same-length-12 c = refl
 
 returns-5 : tie.Need-returns-5
 unfolding outgoingOf
@@ -159,13 +159,13 @@ place-requires : tie.Need-place-requires
 place-requires c κs = some (c .before .before .before .before .before .before .before .before .before .before)
 
 same-length-13 : tie.Need-same-length-13
-same-length-13 c = search needs
+same-length-13 c = refl
 
 same-length-14 : tie.Need-same-length-14
-same-length-14 c = search needs
+same-length-14 c = refl
 
 same-length-15 : tie.Need-same-length-15
-same-length-15 c = search needs
+same-length-15 c = refl
 
 returns-6 : tie.Need-returns-6
 unfolding outgoingOf
