@@ -1,33 +1,30 @@
 -- A table of which every number stands in its own slot, and every entry beside a number is sound, stays so. Assumes nothing.
 use mathlib.Core.Path.{_≡_, refl, sym, ap, _∙_}
-use mathlib.Core.Bool.{Bool, true, false, cond, not, _&&_, _||_, or-true}
-use mathlib.Core.List.{List, [], _∷_, _++_}
+use mathlib.Core.Bool.{Bool, true, false, cond, not}
+use mathlib.Core.List.{List, [], _∷_}
 use Prim.Native.Nat.{ℕ, _+_, _*_, _%_, _^_, _≤_, _<_}
-use native.Mathlib.Nat.{mod-lt, one-mul}
+use native.Mathlib.Nat.{one-mul}
 use native.Mathlib.Omega.{arith}
-use lib.Bits.{bitOr, or-lt}
+use lib.Bits.{or-lt}
 use lib.Dec.{ltb, leb, eqb}
 use lib.ListN.{length, getD, set, take, drop, length-set, getD-replicate}
 use lib.Pow.{pow-lt}
 use lib.Seq.{getD-set-same, getD-set-other, take-at}
 use borrow.Author.Tests.{eqb-true, eqb-false, ltb-false, leb-false}
-use Rattle.laws.proofs.Cases.{case, both, lt-or-le}
+use Rattle.laws.proofs.Cases.{case, both}
 use Rattle.laws.proofs.Lists.{map-at}
-use Rattle.keys.specs.Keys.{twice}
 use Rattle.serial.specs.Order.{back}
 use Rattle.terms.specs.Sizes.{inRange}
 use Rattle.terms.specs.declared.Sizes.{Sizes}
-use Rattle.terms.specs.declared.Refusal.{Refusal}
-use Rattle.terms.specs.declared.Refusal.the-variants.{BadSizes, BadStorage, BadState, TooLong}
-use Rattle.sequence_buffer.specs.Buffer.{none, fresh, holds, tooOld, moves, goes, emptied, advancedSlots, insertedSlots, removedSlots}
+use Rattle.terms.specs.declared.Refusal.the-variants.{BadState}
+use Rattle.sequence_buffer.specs.Buffer.{none, holds, tooOld, moves, goes, emptied, advancedSlots, insertedSlots, removedSlots}
 use Rattle.sequence_buffer.proofs.Home.{Home, home-apart, home-fresh, home-inserted, home-removed}
 use Rattle.sequence_buffer.proofs.Held.{length-inserted}
 use Rattle.reassembly.specs.Words.{entryOf, entryWord}
 use Rattle.reassembly.specs.Plan.{slotOf, known, opened, found, grown, planOf}
-use Rattle.reassembly.specs.Effects.{State, complete, numAfter, slotsAfter, entryAfter, performed}
-use Rattle.reassembly.specs.Gate.{allBelow, entrySound, soundAt, sound, tooShort, gateOf, planAt, decided, handled}
+use Rattle.reassembly.specs.Effects.{State, complete, slotsAfter, entryAfter, performed}
+use Rattle.reassembly.specs.Gate.{entrySound, soundAt, sound, tooShort, gateOf, planAt, decided, handled}
 use Rattle.reassembly.specs.Room.{Growing}
-use Rattle.reassembly.specs.declared.words.Entry.{Entry}
 use Rattle.reassembly.specs.declared.plan.Fragment.{Fragment}
 use Rattle.reassembly.specs.declared.plan.Joining.{Joining}
 use Rattle.reassembly.specs.declared.plan.Plan.{Plan}
@@ -35,9 +32,9 @@ use Rattle.reassembly.specs.declared.plan.Plan.the-variants.{Refuse, Make, Join
 use Rattle.reassembly.specs.declared.gate.Gate.{Gate}
 use Rattle.reassembly.specs.declared.gate.Gate.the-variants.{Open, Shut}
 use Rattle.reassembly.proofs.Below.{all-of}
-use Rattle.reassembly.proofs.Sound.{SoundEntry, entry-holds, opened-sound, grown-sound, found-sound, below-most, at-most}
-use Rattle.reassembly.proofs.Planned.{Joins, plan-joins}
-use Rattle.reassembly.proofs.Passing.{Opens, gate-opens, open-room}
+use Rattle.reassembly.proofs.Sound.{entry-holds, opened-sound, grown-sound, found-sound, below-most, at-most}
+use Rattle.reassembly.proofs.Planned.{plan-joins}
+use Rattle.reassembly.proofs.Passing.{gate-opens, open-room}
 use Rattle.fragmenter.specs.Runs.{Call, after, Fresh, StaysSound}
 use Rattle.fragmenter.proofs.Packed.{entry-again}
 
@@ -138,7 +135,7 @@ opened-again f count h =
     rw (entry-again (opened count) h (omega arith) (omega arith) (omega arith)) (entry-holds f (opened count) (opened-sound f count))
 
 -- the slots once a fragment has joined: an entry may have been made, and may be gone
-abbrev made-slots : Bool → ℕ → List ℕ → ℕ → List ℕ
+abbrev pub made-slots : Bool → ℕ → List ℕ → ℕ → List ℕ
 made-slots made num slots n = cond made (insertedSlots num slots n) slots
 
 home-joined : (made whole : Bool) (c num : ℕ) (slots : List ℕ) (n : ℕ) → Home c slots
@@ -160,7 +157,7 @@ joined-at false false c num slots n i l h apart = λ v. refl
 
 -- a call keeps the table
 module _ (z : Sizes) (s : State) (output : List ℕ) (g : Fragment) (len : ℕ) (number-fits : g .number .0 < 65536) (count-fits : g .count < 256) where
-  kept-plan : (plan : Plan)
+  pub kept-plan : (plan : Plan)
       → decided z s output g len ≡ plan
       → Kept (z .«fragment_size») (z .«reassembly_slots») (take (z .«reassembly_slots») (s .slots)) (s .entry)
       → Kept (z .«fragment_size») (z .«reassembly_slots»)
@@ -191,10 +188,10 @@ module _ (z : Sizes) (s : State) (output : List ℕ) (g : Fragment) (len : ℕ) 
       (λ i h apart v. joined-at (j .made) (complete (j .entry)) c (s .num) slots n i (was .home .long) h apart v)
       (joined-sound f slots (s .entry) g (s .num) len j room number-fits count-fits (p .1) (p .2))
 
-Keeps : Sizes → State → Type 0
+unfoldable pub Keeps : Sizes → State → Type 0
 Keeps z s = Kept (z .«fragment_size») (z .«reassembly_slots») (take (z .«reassembly_slots») (s .slots)) (s .entry)
 
-kept-call : (z : Sizes) (s : State) (c : Call) → Keeps z s → Keeps z (handled z s (c .output) (c .fragment) (c .payload))
+pub kept-call : (z : Sizes) (s : State) (c : Call) → Keeps z s → Keeps z (handled z s (c .output) (c .fragment) (c .payload))
 unfolding Keeps handled performed
 kept-call z s c was =
     let g = c .fragment in
@@ -206,7 +203,7 @@ unfolding after
 kept-calls z s [] was = was
 kept-calls z s (c ∷ calls) was = kept-calls z (handled z s (c .output) (c .fragment) (c .payload)) calls (kept-call z s c was)
 
-kept-fresh : (z : Sizes) (s : State) → Fresh z s → Keeps z s
+pub kept-fresh : (z : Sizes) (s : State) → Fresh z s → Keeps z s
 unfolding Keeps
 kept-fresh z s new =
     let c = z .«reassembly_slots» in
@@ -216,7 +213,7 @@ kept-fresh z s new =
       each-sound = λ i h. rw (new .slots-none, getD-replicate c i none 0 h) (λ v. absurd (omega arith));
     }
 
-kept-sound : (f c : ℕ) (slots entry : List ℕ) → Kept f c slots entry → sound f slots entry ≡ true
+pub kept-sound : (f c : ℕ) (slots entry : List ℕ) → Kept f c slots entry → sound f slots entry ≡ true
 unfolding sound
 kept-sound f c slots entry k =
     let long = k .home .long in

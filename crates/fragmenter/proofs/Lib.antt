@@ -1,2 +1,4 @@
 pub mod Packed
 pub mod Keeping
+pub mod Stages
+pub mod Presenting

@@ -7,6 +7,7 @@ use lib.Arith.{digits-div, digits-mod}
 use Rattle.reassembly.specs.Words.{entryOf, entryWord, headerOf, headerWord}
 use Rattle.reassembly.specs.declared.words.Entry.{Entry}
 use Rattle.reassembly.specs.declared.words.AckHeader.{AckHeader}
+use Rattle.fragmenter.specs.Unpacked.{Unpacked}
 
 -- the digit above `low` of a word
 digit : (w q m n low : ℕ) → low < m → w ≡ q * m + low → w / m % n ≡ q % n
@@ -44,3 +45,6 @@ header-again h n a =
     let field-is : headerWord h / 4294967296 ≡ v =
     ap (λ (q : ℕ). q / 4294967296) w ∙ digits-div v {m = 4294967296} {r = x + y * 65536} (omega arith) in
     λ i. record { number = record { 0 = number-is i }; acked = record { 0 = acked-is i }; field = field-is i }
+
+pub unpacked : Unpacked
+unpacked = record { entry-again = entry-again; header-again = header-again }

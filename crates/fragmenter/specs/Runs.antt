@@ -1,6 +1,5 @@
 -- Document 01: "From a fresh end whose sizes, state and storage go from call to call unaltered, 13 never arises."
 use mathlib.Core.Path.{_≡_}
-use mathlib.Core.Bool.{true}
 use mathlib.Core.List.{List, [], _∷_}
 use Prim.Native.Nat.{ℕ, _<_, _≤_}
 use lib.ListN.{length, take}

@@ -7,7 +7,7 @@ use Prim.Native.Nat.{ℕ, zero, suc, _+_, _-_, _*_, _/_, _%_, _≤_, _<_}
 use native.Mathlib.Nat.{zero-mul, suc-mul, mul-one, zero-div, zero-mod, div-eq-of-lt, mod-eq-of-lt, div-eq-sub-div, mod-eq-sub-mod, div-add-mod', mul-le-mul-left, not-suc-le-zero, le-of-suc-le-suc}
 use native.Mathlib.Omega.{arith}
 use lib.ListN.{length, getD, take, drop, length-take, length-drop, take-append-drop}
-use lib.Seq.{take-nil, drop-nil, drop-drop, length-take-le, take-all}
+use lib.Seq.{take-nil, drop-nil, drop-drop, length-take-le}
 use borrow.Author.Tests.{lt-ltb}
 use Rattle.laws.proofs.Cases.{lt-or-le}
 use Rattle.splitter.specs.Split.{cut, pieces, needed, Splits}

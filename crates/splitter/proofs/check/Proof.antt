@@ -1,7 +1,7 @@
 use borrow.Author.Needs.{needs}
 use Rattle.splitter.proofs.check.Statement.{statement}
 use Rattle.splitter.proofs.check.Tie as tie
-use mathlib.Core.Path.{_≡_, refl, sym}
+use mathlib.Core.Path.{_≡_}
 use mathlib.Core.Bool.{true}
 use borrow.Author.Tests.{lt-ltb, le-ltb}
 use Rattle.laws.proofs.Cases.{on, off}
