@@ -5,6 +5,7 @@ use mathlib.Core.Path.{_≡_}
 use mathlib.Core.List.{List, [], _∷_, flatten}
 use lib.ListN.{length, getD, take, drop}
 use lib.Dec.{ltb}
+use Rattle.terms.specs.Refusals.{numberOf}
 use Rattle.terms.specs.Sizes.{inRange}
 use Rattle.terms.specs.declared.Sizes.{Sizes}
 use Rattle.terms.specs.declared.Refusal.the-variants.{BadSizes, TooLong, ExceededMaxFragments}
@@ -32,6 +33,11 @@ splitOf s n =
     (cond (ltb 65535 n) (Refused TooLong)
     (cond (ltb (s .«max_fragments») (needed n (s .«fragment_size»))) (Refused ExceededMaxFragments)
     (Pieces (needed n (s .«fragment_size»)))))
+
+-- 01's number for each answer, 0 where nothing is refused
+abbrev pub numberOfSplit : Split → ℕ
+numberOfSplit (Pieces count) = 0
+numberOfSplit (Refused why) = numberOf why
 
 -- what the pieces of a payload are
 pub record Splits : Type 0 where
