@@ -26,14 +26,14 @@ use Rattle.splitter.proofs.Pieces.{begins, piece-at, piece-count, piece-full, s
 use Rattle.reassembly.specs.Words.{entryWord, headerWord}
 use Rattle.reassembly.specs.Plan.{found, grown, judged, passed, planOf}
 use Rattle.reassembly.specs.Effects.{State, slotsAfter, entryAfter, headerAfter, bytesAfter, outputAfter, performed, joinedAnswer, answerOf, written}
-use Rattle.reassembly.specs.Gate.{sound, tooShort, gateOf, decided, handled}
+use Rattle.reassembly.specs.Gate.{sound, tooShort, gateOf, decided, handled, told, outputOf}
 use Rattle.reassembly.specs.declared.words.Entry.{Entry}
 use Rattle.reassembly.specs.declared.words.AckHeader.{AckHeader}
 use Rattle.reassembly.specs.declared.plan.Joining.{Joining}
 use Rattle.reassembly.specs.declared.plan.Plan.the-variants.{Join}
 use Rattle.reassembly.specs.declared.effects.Answer.the-variants.{Waiting, Whole}
 use Rattle.reassembly.specs.declared.gate.Gate.the-variants.{Open}
-use Rattle.fragmenter.specs.Present.{told, outputOf, part, countOf, pieceOf, presented, Ready, GivesBack}
+use Rattle.fragmenter.specs.Present.{part, countOf, pieceOf, presented, Ready, GivesBack}
 use Rattle.fragmenter.proofs.Packed.{entry-again, header-again}
 use Rattle.fragmenter.proofs.Keeping.{Kept, Keeps, made-slots, kept-call, kept-fresh, kept-sound}
 use Rattle.fragmenter.proofs.Stages.{all-ids, stage, id-fresh, ids-more, stage-none, one-slot, inserted-first, holds-none, holds-one, length-one, removed-one}

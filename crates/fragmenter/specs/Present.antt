@@ -9,24 +9,12 @@ use Rattle.terms.specs.declared.Sizes.{Sizes}
 use Rattle.sequence_buffer.specs.Buffer.{fresh, tooOld}
 use Rattle.splitter.specs.Split.{pieces, splitOf}
 use Rattle.splitter.specs.declared.Split.the-variants.{Pieces}
-use Rattle.reassembly.specs.Plan.{slotOf}
-use Rattle.reassembly.specs.Effects.{State, roomOf, outputAfter, answerOf, written}
-use Rattle.reassembly.specs.Gate.{decided, handled}
+use Rattle.reassembly.specs.Effects.{State, written}
+use Rattle.reassembly.specs.Gate.{handled, told, outputOf}
 use Rattle.reassembly.specs.declared.words.AckHeader.{AckHeader}
 use Rattle.reassembly.specs.declared.plan.Fragment.{Fragment}
-use Rattle.reassembly.specs.declared.effects.Answer.{Answer}
 use Rattle.reassembly.specs.declared.effects.Answer.the-variants.{Waiting, Whole}
 use Rattle.fragmenter.specs.Runs.{Fresh}
-
--- what a call of `handle_fragment` answers, and what it leaves in the output
-abbrev pub told : Sizes → State → List ℕ → Fragment → List ℕ → Answer
-told z s output g payload =
-    answerOf (decided z s output g (length payload)) (slotOf (take (z .«reassembly_slots») (s .slots)) g) (handled z s output g payload .header)
-
-abbrev pub outputOf : Sizes → State → List ℕ → Fragment → List ℕ → List ℕ
-outputOf z s output g payload =
-    outputAfter (decided z s output g (length payload)) (roomOf (z .«fragment_size») (slotOf (take (z .«reassembly_slots») (s .slots)) g))
-    (handled z s output g payload .bytes) output
 
 -- fragment j of `count` under packet number n
 abbrev pub part : ℕ → AckHeader → ℕ → ℕ → Fragment

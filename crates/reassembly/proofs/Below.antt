@@ -3,15 +3,15 @@
 --     count-ones     the set digits of a number, counted by place
 --     all-at, all-of, all-not     what `allBelow` says, number by number
 use mathlib.Core.Path.{_≡_, refl, sym, ap, _∙_}
-use mathlib.Core.Bool.{Bool, true, false, cond, _||_, _&&_, or-false, or-true, and-true}
+use mathlib.Core.Bool.{Bool, true, false, cond, _||_, or-false, or-true}
 use mathlib.Core.Logic.{⊎-elim}
-use Prim.Native.Nat.{ℕ, zero, suc, _+_, _*_, _/_, _%_, _^_, _≤_, _<_}
+use Prim.Native.Nat.{ℕ, zero, suc, _+_, _/_, _%_, _^_, _≤_, _<_}
 use native.Mathlib.Nat.{not-suc-le-zero, mod-lt, mod-eq-of-lt, mod-one, div-one}
 use native.Mathlib.Omega.{arith}
 use lib.Count.{ones, ones-cat}
 use lib.Dec.{eqb}
 use lib.Pow.{pow-pos, mod-pow-add}
-use borrow.Author.Tests.{eq-eqb, ne-eqb, eqb-true, eqb-false}
+use borrow.Author.Tests.{eq-eqb, ne-eqb}
 use Rattle.laws.specs.Bits.{bit}
 use Rattle.laws.proofs.Cases.{case, both, lt-or-le}
 use Rattle.reassembly.specs.Gate.{countBelow, allBelow}

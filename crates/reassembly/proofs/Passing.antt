@@ -1,6 +1,6 @@
 -- The call of a user: what an open gate says, what a refusal keeps, and what a plan leaves of what is lent. Assumes nothing.
-use mathlib.Core.Path.{_≡_, refl, sym, ap, _∙_}
-use mathlib.Core.Bool.{Bool, true, false, cond, not}
+use mathlib.Core.Path.{_≡_, sym, ap}
+use mathlib.Core.Bool.{true, false}
 use mathlib.Core.List.{List, _++_}
 use Prim.Native.Nat.{ℕ, _+_, _*_, _≤_}
 use native.Mathlib.Omega.{arith}
@@ -13,16 +13,14 @@ use Rattle.terms.specs.Sizes.{inRange}
 use Rattle.terms.specs.declared.Sizes.{Sizes}
 use Rattle.terms.specs.declared.Refusal.{Refusal}
 use Rattle.terms.proofs.Ranges.{InRange, in-range-means}
-use Rattle.reassembly.specs.Plan.{slotOf}
 use Rattle.reassembly.specs.Effects.{State, numAfter, slotsAfter, entryAfter, headerAfter, bytesAfter, outputAfter, answerOf, performed, Performs}
-use Rattle.reassembly.specs.Gate.{sound, stated, restored, tooShort, gateOf, decided, handled, Handles}
-use Rattle.reassembly.specs.Room.{lending, Growing, Room}
+use Rattle.reassembly.specs.Gate.{sound, stated, tooShort, gateOf, decided, handled, Handles}
+use Rattle.reassembly.specs.Room.{lending, Room}
 use Rattle.reassembly.specs.declared.plan.Fragment.{Fragment}
 use Rattle.reassembly.specs.declared.plan.Plan.{Plan}
 use Rattle.reassembly.specs.declared.plan.Plan.the-variants.{Refuse}
 use Rattle.reassembly.specs.declared.effects.Answer.the-variants.{Refused}
 use Rattle.reassembly.specs.declared.effects.Handled.{Handled}
-use Rattle.reassembly.specs.declared.gate.Gate.{Gate}
 use Rattle.reassembly.specs.declared.gate.Gate.the-variants.{Open, Shut}
 
 pub record Long (f c : ℕ) (slots entry header bytes output : List ℕ) : Type 0 where

@@ -1,11 +1,10 @@
 -- What a plan to join says of the entry and the fragment, and that the fragment then has room. Assumes nothing.
-use mathlib.Core.Path.{_≡_, refl, sym, _∙_}
-use mathlib.Core.Bool.{Bool, true, false, not}
+use mathlib.Core.Path.{_≡_}
+use mathlib.Core.Bool.{Bool, false, not}
 use mathlib.Core.List.{List}
 use Prim.Native.Nat.{ℕ, _+_, _*_, _≤_, _<_}
 use native.Mathlib.Omega.{arith}
 use lib.Dec.{leb, eqb}
-use lib.ListN.{length}
 use borrow.Author.Tests.{eqb-true, leb-false}
 use Rattle.laws.specs.Bits.{bit}
 use Rattle.laws.proofs.Cases.{case}
@@ -16,9 +15,8 @@ use Rattle.reassembly.specs.Room.{Growing}
 use Rattle.reassembly.specs.declared.words.Entry.{Entry}
 use Rattle.reassembly.specs.declared.plan.Fragment.{Fragment}
 use Rattle.reassembly.specs.declared.plan.Joining.{Joining}
-use Rattle.reassembly.specs.declared.plan.Plan.{Plan}
 use Rattle.reassembly.specs.declared.plan.Plan.the-variants.{Refuse, Make, Join}
-use Rattle.reassembly.proofs.Sound.{SoundEntry, found-sound, grown-sound, below-most, at-most}
+use Rattle.reassembly.proofs.Sound.{found-sound, grown-sound, below-most, at-most}
 
 -- the fragment joins an entry
 pub record Joins (there : Bool) (e : Entry) (g : Fragment) (len : ℕ) (j : Joining) : Type 0 where

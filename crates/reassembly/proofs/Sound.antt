@@ -4,29 +4,25 @@
 --     found-sound                  the entry that a fragment finds in a sound table
 --     plan-fits                    a planned fragment fits
 use mathlib.Core.Path.{_≡_, refl, sym, ap, _∙_}
-use mathlib.Core.Bool.{Bool, true, false, cond, not, _&&_, _||_}
+use mathlib.Core.Bool.{true, false, not, _||_}
 use mathlib.Core.List.{List}
-use Prim.Native.Nat.{ℕ, _+_, _*_, _%_, _^_, _≤_, _<_}
-use native.Mathlib.Nat.{mod-lt, mul-le-mul-left, mul-comm, mul-zero}
+use Prim.Native.Nat.{ℕ, _+_, _*_, _^_, _≤_, _<_}
+use native.Mathlib.Nat.{mod-lt, mul-le-mul-left, mul-comm}
 use native.Mathlib.Omega.{arith}
 use lib.Bits.{bitOr}
-use lib.Dec.{ltb, leb, eqb}
+use lib.Dec.{leb, eqb}
 use lib.ListN.{length, getD}
-use borrow.Author.Tests.{eqb-true, eq-eqb, leb-true, leb-false, le-leb, lt-leb}
+use borrow.Author.Tests.{eqb-true, eq-eqb, leb-true, le-leb, lt-leb}
 use Rattle.laws.specs.Bits.{bit}
 use Rattle.laws.proofs.Bits.{bit-or}
 use Rattle.laws.proofs.Cases.{case, each}
 use Rattle.keys.specs.Keys.{twice}
-use Rattle.sequence_buffer.specs.Buffer.{holds}
 use Rattle.reassembly.specs.Words.{entryOf}
-use Rattle.reassembly.specs.Plan.{slotOf, known, opened, found, grown, placeOf, judged, passed, planOf}
+use Rattle.reassembly.specs.Plan.{slotOf, known, opened, found, grown}
 use Rattle.reassembly.specs.Gate.{countBelow, allBelow, entrySound, soundAt, sound}
 use Rattle.reassembly.specs.Room.{Growing}
 use Rattle.reassembly.specs.declared.words.Entry.{Entry}
 use Rattle.reassembly.specs.declared.plan.Fragment.{Fragment}
-use Rattle.reassembly.specs.declared.plan.Joining.{Joining}
-use Rattle.reassembly.specs.declared.plan.Plan.{Plan}
-use Rattle.reassembly.specs.declared.plan.Plan.the-variants.{Refuse, Make, Join}
 use Rattle.reassembly.proofs.Below.{count-le, count-more, all-at}
 
 pub record SoundEntry (f : ℕ) (e : Entry) : Type 0 where

@@ -9,6 +9,7 @@ use lib.ListN.{length, getD, set, take, drop}
 use lib.Seq.{paste}
 use Rattle.laws.specs.Bits.{bit}
 use Rattle.sequence_buffer.specs.Buffer.{insertedNum, insertedSlots, removedSlots}
+use Rattle.terms.specs.Refusals.{numberOf}
 use Rattle.terms.specs.declared.Refusal.the-variants.{ExceededMaxFragments, MissingAckHeader}
 use Rattle.reassembly.specs.Words.{entryWord, headerOf, headerWord}
 use Rattle.reassembly.specs.Plan.{slotOf, opened}
@@ -112,6 +113,12 @@ unfoldable pub answerOf : Plan → ℕ → List ℕ → Answer
 answerOf (Refuse why) k header = Refused why
 answerOf Make k header = Refused ExceededMaxFragments
 answerOf (Join j) k header = joinedAnswer (j .entry) (getD header k 0)
+
+-- 01's number for each answer, 0 where nothing is refused
+abbrev pub numberOfAnswer : Answer → ℕ
+numberOfAnswer Waiting = 0
+numberOfAnswer (Whole message) = 0
+numberOfAnswer (Refused why) = numberOf why
 
 -- a call that carries out a plan
 pub record Performs (plan : Plan) (f : ℕ) (g : Fragment) (payload : List ℕ) (s : State) (output : List ℕ) (r : Handled) (slots entry header bytes out : List ℕ) : Type 0 where

@@ -1,5 +1,5 @@
 -- Document 01, "Order: 1, 2, 13", then 5, and a fragment's call as a whole.
-use Prim.Native.Nat.{ℕ, zero, suc, _+_, _*_, _≤_}
+use Prim.Native.Nat.{ℕ, zero, suc, _+_, _*_}
 use mathlib.Core.Bool.{Bool, true, cond, not, _&&_, _||_}
 use mathlib.Core.List.{List, _++_}
 use mathlib.Core.Path.{_≡_}
@@ -17,6 +17,7 @@ use Rattle.reassembly.specs.declared.words.Entry.{Entry}
 use Rattle.reassembly.specs.declared.plan.Fragment.{Fragment}
 use Rattle.reassembly.specs.declared.plan.Plan.{Plan}
 use Rattle.reassembly.specs.declared.plan.Plan.the-variants.{Refuse}
+use Rattle.reassembly.specs.declared.effects.Answer.{Answer}
 use Rattle.reassembly.specs.declared.effects.Handled.{Handled}
 use Rattle.reassembly.specs.declared.gate.Gate.{Gate}
 use Rattle.reassembly.specs.declared.gate.Gate.the-variants.{Open, Shut}
@@ -77,13 +78,22 @@ handled z s output g payload =
     restored (z .«reassembly_slots») s
     (performed (decided z s output g (length payload)) (z .«fragment_size») g payload (stated (z .«reassembly_slots») s))
 
-pub record Handles (z : Sizes) (s : State) (g : Fragment) (payload output : List ℕ) (r : Handled) (slots entry header bytes written : List ℕ) : Type 0 where
+-- what it answers, and what stands in the output
+abbrev pub told : Sizes → State → List ℕ → Fragment → List ℕ → Answer
+told z s output g payload =
+    answerOf (decided z s output g (length payload)) (slotOf (take (z .«reassembly_slots») (s .slots)) g) (handled z s output g payload .header)
+
+abbrev pub outputOf : Sizes → State → List ℕ → Fragment → List ℕ → List ℕ
+outputOf z s output g payload =
+    outputAfter (decided z s output g (length payload)) (roomOf (z .«fragment_size») (slotOf (take (z .«reassembly_slots») (s .slots)) g))
+    (handled z s output g payload .bytes) output
+
+-- a call of a user, for any input
+pub record Handles (z : Sizes) (s : State) (g : Fragment) (payload output : List ℕ) (r : Handled) (slots entry header bytes out : List ℕ) : Type 0 where
   pub number : r .«sequence_num» .0 ≡ handled z s output g payload .num
-  pub answer : r .answer ≡ answerOf (decided z s output g (length payload)) (slotOf (take (z .«reassembly_slots») (s .slots)) g) (handled z s output g payload .header)
+  pub answer : r .answer ≡ told z s output g payload
   pub slots-are : slots ≡ handled z s output g payload .slots
   pub entry-is : entry ≡ handled z s output g payload .entry
   pub header-is : header ≡ handled z s output g payload .header
   pub bytes-are : bytes ≡ handled z s output g payload .bytes
-  pub output-is : written
-      ≡ outputAfter (decided z s output g (length payload)) (roomOf (z .«fragment_size») (slotOf (take (z .«reassembly_slots») (s .slots)) g))
-      (handled z s output g payload .bytes) output
+  pub output-is : out ≡ outputOf z s output g payload

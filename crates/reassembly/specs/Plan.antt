@@ -12,7 +12,6 @@ use Rattle.terms.specs.declared.Refusal.the-variants.{ExceededMaxFragments, Cou
 use Rattle.reassembly.specs.Words.{entryOf}
 use Rattle.reassembly.specs.declared.words.Entry.{Entry}
 use Rattle.reassembly.specs.declared.plan.Fragment.{Fragment}
-use Rattle.reassembly.specs.declared.plan.Joining.{Joining}
 use Rattle.reassembly.specs.declared.plan.Plan.{Plan}
 use Rattle.reassembly.specs.declared.plan.Plan.the-variants.{Refuse, Make, Join}
 

@@ -2,7 +2,6 @@ use borrow.Author.Needs.{needs}
 use Rattle.reassembly.proofs.handle_fragment.Statement.{statement}
 use Rattle.reassembly.proofs.handle_fragment.Tie as tie
 use mathlib.Core.Path.{_≡_, refl, sym, _∙_}
-use native.Mathlib.Omega.{arith}
 use lib.ListN.{length, take}
 use lib.Seq.{length-take-le}
 use denote.Ref.{now}

@@ -1,7 +1,5 @@
-use borrow.Author.Needs.{needs}
 use Rattle.reassembly.proofs.effects.goes_out.Statement.{statement}
 use Rattle.reassembly.proofs.effects.goes_out.Tie as tie
-use mathlib.Core.Path.{_≡_, refl}
 use borrow.Author.Tests.{eq-eqb, ne-eqb}
 use Rattle.reassembly.proofs.Below.{bit-zero}
 

@@ -1,7 +1,7 @@
 use borrow.Author.Needs.{needs}
 use Rattle.reassembly.proofs.effects.hand_out.Statement.{statement}
 use Rattle.reassembly.proofs.effects.hand_out.Tie as tie
-use mathlib.Core.Path.{_≡_, refl, ap, _∙_}
+use mathlib.Core.Path.{_≡_, ap, _∙_}
 use mathlib.Core.List.{List, _++_}
 use Prim.Native.Nat.{ℕ, _+_, _-_}
 use native.Mathlib.Nat.{add-sub-cancel-left}

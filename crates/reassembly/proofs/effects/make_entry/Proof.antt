@@ -1,7 +1,6 @@
 use borrow.Author.Needs.{needs}
 use Rattle.reassembly.proofs.effects.make_entry.Statement.{statement}
 use Rattle.reassembly.proofs.effects.make_entry.Tie as tie
-use mathlib.Core.Path.{_≡_, refl}
 use Rattle.sequence_buffer.specs.Buffer.{inserted}
 
 insert-requires : tie.Need-insert-requires

@@ -1,7 +1,7 @@
 use borrow.Author.Needs.{needs}
 use Rattle.reassembly.proofs.effects.number_in.Statement.{statement}
 use Rattle.reassembly.proofs.effects.number_in.Tie as tie
-use mathlib.Core.Path.{_≡_, refl}
+use mathlib.Core.Path.{_≡_}
 use Rattle.reassembly.specs.Effects.{numAfter, slotsAfter}
 use Rattle.reassembly.specs.declared.plan.Plan.the-variants.{Refuse, Make, Join}
 

@@ -1,8 +1,8 @@
 use borrow.Author.Needs.{needs}
 use Rattle.reassembly.proofs.effects.perform.Statement.{statement}
 use Rattle.reassembly.proofs.effects.perform.Tie as tie
-use mathlib.Core.Path.{_≡_, refl, sym, _∙_}
-use Prim.Native.Nat.{ℕ, _+_, _*_, _≤_}
+use mathlib.Core.Path.{sym, _∙_}
+use Prim.Native.Nat.{_+_, _*_, _≤_}
 use native.Mathlib.Omega.{arith}
 use lib.ListN.{length}
 use denote.Ref.{now}

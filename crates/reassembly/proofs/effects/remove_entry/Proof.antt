@@ -1,7 +1,6 @@
 use borrow.Author.Needs.{needs}
 use Rattle.reassembly.proofs.effects.remove_entry.Statement.{statement}
 use Rattle.reassembly.proofs.effects.remove_entry.Tie as tie
-use mathlib.Core.Path.{_≡_, refl}
 
 remove-requires : tie.Need-remove-requires
 remove-requires c κs = search needs

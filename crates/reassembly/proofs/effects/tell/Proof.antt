@@ -1,7 +1,7 @@
 use borrow.Author.Needs.{needs}
 use Rattle.reassembly.proofs.effects.tell.Statement.{statement}
 use Rattle.reassembly.proofs.effects.tell.Tie as tie
-use mathlib.Core.Path.{_≡_, refl}
+use mathlib.Core.Path.{_≡_}
 use Rattle.reassembly.specs.Effects.{answerOf}
 use Rattle.reassembly.specs.declared.plan.Plan.the-variants.{Refuse, Make, Join}
 

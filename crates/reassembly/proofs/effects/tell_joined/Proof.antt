@@ -1,7 +1,6 @@
 use borrow.Author.Needs.{needs}
 use Rattle.reassembly.proofs.effects.tell_joined.Statement.{statement}
 use Rattle.reassembly.proofs.effects.tell_joined.Tie as tie
-use mathlib.Core.Path.{_≡_, refl}
 use borrow.Author.Tests.{eq-eqb, ne-eqb}
 use Rattle.reassembly.specs.Effects.{joinedAnswer}
 use Rattle.reassembly.proofs.Below.{bit-zero}

@@ -1,16 +1,14 @@
 use borrow.Author.Needs.{needs}
 use Rattle.reassembly.proofs.gate.check.Statement.{statement}
 use Rattle.reassembly.proofs.gate.check.Tie as tie
-use mathlib.Core.Path.{_≡_, refl, sym, _∙_}
-use mathlib.Core.Bool.{true, false}
-use native.Mathlib.Omega.{arith}
-use lib.ListN.{length}
+use mathlib.Core.Path.{_≡_, sym, _∙_}
+use mathlib.Core.Bool.{true}
 use lib.Seq.{length-take-le}
 use denote.Ref.{now}
 use Rattle.laws.proofs.Cases.{on, off}
 use Rattle.terms.specs.Sizes.{inRange}
 use Rattle.terms.proofs.Ranges.{InRange, in-range-means}
-use Rattle.reassembly.specs.Gate.{tooShort, gateOf}
+use Rattle.reassembly.specs.Gate.{gateOf}
 use Rattle.reassembly.proofs.Passing.{Long, long-enough}
 
 ranged : (c : tie.Else1) → inRange (c .before .before .before .before .before .before .before .args .sizes) ≡ true

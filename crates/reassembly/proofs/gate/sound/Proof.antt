@@ -1,15 +1,14 @@
 use borrow.Author.Needs.{needs}
 use Rattle.reassembly.proofs.gate.sound.Statement.{statement}
 use Rattle.reassembly.proofs.gate.sound.Tie as tie
-use mathlib.Core.Path.{_≡_, refl, sym, ap, _∙_}
-use mathlib.Core.Bool.{true, false, not}
-use Prim.Native.Nat.{ℕ, _-_, _≤_}
+use mathlib.Core.Path.{_≡_, sym, ap, _∙_}
+use mathlib.Core.Bool.{true, not}
+use Prim.Native.Nat.{_-_, _≤_}
 use native.Mathlib.Numerals.{add-one}
 use native.Mathlib.Omega.{arith}
 use lib.ListN.{length}
 use denote.Ref.{now}
 use Rattle.laws.proofs.Cases.{on, off}
-use Rattle.keys.specs.Keys.{twice}
 use Rattle.reassembly.specs.Gate.{allBelow, soundAt, sound}
 use Rattle.reassembly.proofs.Below.{all-none, all-more, all-not}
 

@@ -1,7 +1,6 @@
 use borrow.Author.Needs.{needs}
 use Rattle.reassembly.proofs.gate.sound_beside.Statement.{statement}
 use Rattle.reassembly.proofs.gate.sound_beside.Tie as tie
-use mathlib.Core.Path.{_≡_, refl}
 use borrow.Author.Tests.{le-leb, lt-leb}
 
 returns : tie.Need-returns

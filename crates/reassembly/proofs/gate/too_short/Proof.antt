@@ -1,7 +1,6 @@
 use borrow.Author.Needs.{needs}
 use Rattle.reassembly.proofs.gate.too_short.Statement.{statement}
 use Rattle.reassembly.proofs.gate.too_short.Tie as tie
-use mathlib.Core.Path.{refl}
 use Prim.Native.Nat.{_*_}
 use native.Mathlib.Nat.{mul-le-mul}
 use native.Mathlib.Omega.{arith}

@@ -1,7 +1,6 @@
 use borrow.Author.Needs.{needs}
 use Rattle.reassembly.proofs.plan.found.Statement.{statement}
 use Rattle.reassembly.proofs.plan.found.Tie as tie
-use mathlib.Core.Path.{refl}
 use Rattle.reassembly.specs.Plan.{found}
 
 mul-unpack : tie.Need-mul-unpack

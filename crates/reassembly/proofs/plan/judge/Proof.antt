@@ -1,7 +1,7 @@
 use borrow.Author.Needs.{needs}
 use Rattle.reassembly.proofs.plan.judge.Statement.{statement}
 use Rattle.reassembly.proofs.plan.judge.Tie as tie
-use mathlib.Core.Path.{_≡_, refl, sym, _∙_}
+use mathlib.Core.Path.{_≡_}
 use native.Mathlib.Omega.{arith}
 use denote.Ref.{now}
 use Rattle.reassembly.specs.Plan.{slotOf, known, found, planOf}

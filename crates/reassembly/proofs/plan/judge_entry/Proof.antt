@@ -1,7 +1,6 @@
 use borrow.Author.Needs.{needs}
 use Rattle.reassembly.proofs.plan.judge_entry.Statement.{statement}
 use Rattle.reassembly.proofs.plan.judge_entry.Tie as tie
-use mathlib.Core.Path.{refl}
 use borrow.Author.Tests.{eq-eqb, ne-eqb, le-leb, lt-leb}
 use Rattle.reassembly.specs.Plan.{judged}
 

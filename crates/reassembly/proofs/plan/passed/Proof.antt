@@ -1,7 +1,6 @@
 use borrow.Author.Needs.{needs}
 use Rattle.reassembly.proofs.plan.passed.Statement.{statement}
 use Rattle.reassembly.proofs.plan.passed.Tie as tie
-use mathlib.Core.Path.{refl}
 use Rattle.reassembly.specs.Plan.{passed}
 
 returns : tie.Need-returns
