@@ -1,34 +1,55 @@
+-- A shut gate and a payload over F are refusals by `kept`; else the plan that was judged is carried out (`done`).
 use borrow.Author.Needs.{needs}
 use Rattle.reassembly.proofs.handle_fragment.Statement.{statement}
 use Rattle.reassembly.proofs.handle_fragment.Tie as tie
 use mathlib.Core.Path.{_≡_, refl, sym, _∙_}
-use lib.ListN.{length, take}
+use lib.ListN.{length}
 use lib.Seq.{length-take-le}
 use denote.Ref.{now}
 use borrow.Author.Tests.{lt-ltb, le-ltb}
 use Rattle.terms.specs.declared.Refusal.the-variants.{TooLong}
 use Rattle.reassembly.specs.Effects.{State}
-use Rattle.reassembly.specs.Gate.{gateOf, decided}
+use Rattle.reassembly.specs.Gate.{stated, gateOf, decided}
 use Rattle.reassembly.specs.Room.{lending, Room}
+use Rattle.reassembly.specs.declared.plan.Plan.{Plan}
 use Rattle.reassembly.specs.declared.plan.Plan.the-variants.{Refuse}
+use Rattle.reassembly.specs.declared.gate.Gate.{Gate}
 use Rattle.reassembly.specs.declared.gate.Gate.the-variants.{Open}
 use Rattle.reassembly.proofs.Passing.{Opens, gate-opens, open-room, kept, done}
 
+-- what is lent, and what the gate and the whole call decide of it
 abbrev whole : tie.Start → State
-whole c = lending (c .args .sequence-num .0) (now (c .args .slots)) (now (c .args .entry)) (now (c .args .header)) (now (c .args .bytes))
+whole s = lending (s .args .sequence-num .0) (now (s .args .slots)) (now (s .args .entry)) (now (s .args .header)) (now (s .args .bytes))
 
-shutting : (c : tie.After-gate) → decided (c .before .before .before .before .before .before .before .before .before .before .before .before .before .before .args .sizes) (whole ((c .before .before .before .before .before .before .before .before .before .before .before .before .before .before))) (now (c .before .before .before .before .before .before .before .before .before .before .before .before .before .before .args .output)) (c .before .before .before .before .before .before .before .before .before .before .before .before .before .before .args .fragment) (length (now (c .before .before .before .before .before .before .before .before .before .before .before .before .before .before .args .payload))) ≡ Refuse (c .gate .given .0 .0)
+abbrev Gated : tie.Start → Gate → Type 0
+Gated s gate = gateOf (s .args .sizes) (now (s .args .slots)) (now (s .args .entry)) (now (s .args .header)) (now (s .args .bytes)) (now (s .args .output)) ≡ gate
+
+abbrev Decides : tie.Start → Plan → Type 0
+Decides s plan = decided (s .args .sizes) (whole s) (now (s .args .output)) (s .args .fragment) (length (now (s .args .payload))) ≡ plan
+
+opens : (s : tie.Start) → Gated s Open → Opens (s .args .sizes) (now (s .args .slots)) (now (s .args .entry)) (now (s .args .header)) (now (s .args .bytes)) (now (s .args .output))
+opens s = gate-opens (s .args .sizes) (now (s .args .slots)) (now (s .args .entry)) (now (s .args .header)) (now (s .args .bytes)) (now (s .args .output))
+
+room : (s : tie.Start) → Gated s Open → Room (s .args .sizes .«fragment_size») (stated (s .args .sizes .«reassembly_slots») (whole s)) (now (s .args .output))
+room s gate = open-room (s .args .sizes) (now (s .args .slots)) (now (s .args .entry)) (now (s .args .header)) (now (s .args .bytes)) (now (s .args .output)) (s .args .sequence-num .0) (opens s gate)
+
+slots-of : (s : tie.Start) → Gated s Open → s .args .sizes .«reassembly_slots» ≡ length (stated (s .args .sizes .«reassembly_slots») (whole s) .slots)
+slots-of s gate = sym (length-take-le (s .args .sizes .«reassembly_slots») (now (s .args .slots)) (opens s gate .long .slots-c))
+
+shutting : (c : tie.After-gate) → Decides ((c .before .before .before .before .before .before .before .before .before .before .before .before .before .before)) (Refuse (c .gate .given .0 .0))
 unfolding decided
 shutting c = rw (sym (c .before .before .check .ensures) ∙ c .gate .given .1)
 
-opening : (c : tie.After-enum-told) → gateOf (c .before .before .before .before .before .before .before .before .before .before .before .before .before .before .args .sizes) (now (c .before .before .before .before .before .before .before .before .before .before .before .before .before .before .args .slots)) (now (c .before .before .before .before .before .before .before .before .before .before .before .before .before .before .args .entry)) (now (c .before .before .before .before .before .before .before .before .before .before .before .before .before .before .args .header)) (now (c .before .before .before .before .before .before .before .before .before .before .before .before .before .before .args .bytes)) (now (c .before .before .before .before .before .before .before .before .before .before .before .before .before .before .args .output)) ≡ Open
+opening : (c : tie.After-enum-told) → Gated ((c .before .before .before .before .before .before .before .before .before .before .before .before .before .before)) Open
 opening c = sym (c .before .before .check .ensures) ∙ c .enum-told .given .1
 
-opened : (c : tie.After-enum-told) → Opens (c .before .before .before .before .before .before .before .before .before .before .before .before .before .before .args .sizes) (now (c .before .before .before .before .before .before .before .before .before .before .before .before .before .before .args .slots)) (now (c .before .before .before .before .before .before .before .before .before .before .before .before .before .before .args .entry)) (now (c .before .before .before .before .before .before .before .before .before .before .before .before .before .before .args .header)) (now (c .before .before .before .before .before .before .before .before .before .before .before .before .before .before .args .bytes)) (now (c .before .before .before .before .before .before .before .before .before .before .before .before .before .before .args .output))
-opened c = gate-opens (c .before .before .before .before .before .before .before .before .before .before .before .before .before .before .args .sizes) (now (c .before .before .before .before .before .before .before .before .before .before .before .before .before .before .args .slots)) (now (c .before .before .before .before .before .before .before .before .before .before .before .before .before .before .args .entry)) (now (c .before .before .before .before .before .before .before .before .before .before .before .before .before .before .args .header)) (now (c .before .before .before .before .before .before .before .before .before .before .before .before .before .before .args .bytes)) (now (c .before .before .before .before .before .before .before .before .before .before .before .before .before .before .args .output)) (opening c)
+too-long : (c : tie.Then1) → Decides ((c .before .before .before .before .before .before .before .before .before .before .before .before .before .before .before)) (Refuse TooLong)
+unfolding decided
+too-long c = rw (opening ((c .before)), lt-ltb _ _ (c .if1 .taken))
 
-room : (c : tie.After-enum-told) → Room (c .before .before .before .before .before .before .before .before .before .before .before .before .before .before .args .sizes .«fragment_size») (lending (c .before .before .before .before .before .before .before .before .before .before .before .before .before .before .args .sequence-num .0) (take (c .before .before .before .before .before .before .before .before .before .before .before .before .before .before .args .sizes .«reassembly_slots») (now (c .before .before .before .before .before .before .before .before .before .before .before .before .before .before .args .slots))) (now (c .before .before .before .before .before .before .before .before .before .before .before .before .before .before .args .entry)) (now (c .before .before .before .before .before .before .before .before .before .before .before .before .before .before .args .header)) (now (c .before .before .before .before .before .before .before .before .before .before .before .before .before .before .args .bytes))) (now (c .before .before .before .before .before .before .before .before .before .before .before .before .before .before .args .output))
-room c = open-room (c .before .before .before .before .before .before .before .before .before .before .before .before .before .before .args .sizes) (now (c .before .before .before .before .before .before .before .before .before .before .before .before .before .before .args .slots)) (now (c .before .before .before .before .before .before .before .before .before .before .before .before .before .before .args .entry)) (now (c .before .before .before .before .before .before .before .before .before .before .before .before .before .before .args .header)) (now (c .before .before .before .before .before .before .before .before .before .before .before .before .before .before .args .bytes)) (now (c .before .before .before .before .before .before .before .before .before .before .before .before .before .before .args .output)) (c .before .before .before .before .before .before .before .before .before .before .before .before .before .before .args .sequence-num .0) (opened c)
+judged : (c : tie.After-judge) → Decides ((c .before .before .before .before .before .before .before .before .before .before .before .before .before .before .before .before .before .before)) (c .judge .result)
+unfolding decided
+judged c = rw (opening ((c .before .before .before .before)), le-ltb _ _ (c .before .before .before .if1 .left)) (sym (c .judge .ensures))
 
 check-requires : tie.Need-check-requires
 check-requires c κs = search needs
@@ -53,8 +74,8 @@ same-length-5 c = search needs
 
 returns : tie.Need-returns
 returns c =
-    let a = c .before .before .before .before .before .before .before .before .before .before .before .before .before .before .before .args in
-    kept (a .sizes) (whole ((c .before .before .before .before .before .before .before .before .before .before .before .before .before .before .before))) (a .fragment) (now (a .payload)) (now (a .output)) (c .before .gate .given .0 .0) _ (shutting ((c .before))) refl refl
+    let s = (c .before .before .before .before .before .before .before .before .before .before .before .before .before .before .before) in
+    kept (s .args .sizes) (whole s) (s .args .fragment) (now (s .args .payload)) (now (s .args .output)) (c .before .gate .given .0 .0) _ (shutting ((c .before))) refl refl
 
 enum-told : tie.Need-enum-told
 enum-told c = search needs
@@ -75,28 +96,27 @@ same-length-10 : tie.Need-same-length-10
 same-length-10 c = search needs
 
 returns-2 : tie.Need-returns-2
-unfolding decided
 returns-2 c =
-    let a = c .before .before .before .before .before .before .before .before .before .before .before .before .before .before .before .args in
-    kept (a .sizes) (whole ((c .before .before .before .before .before .before .before .before .before .before .before .before .before .before .before))) (a .fragment) (now (a .payload)) (now (a .output)) TooLong _ (rw (opening ((c .before)), lt-ltb _ _ (c .if1 .taken))) refl refl
+    let s = (c .before .before .before .before .before .before .before .before .before .before .before .before .before .before .before) in
+    kept (s .args .sizes) (whole s) (s .args .fragment) (now (s .args .payload)) (now (s .args .output)) TooLong _ (too-long c) refl refl
 
 slice-reshare-prefix-judge : tie.Need-slice-reshare-prefix-judge
-slice-reshare-prefix-judge c = opened ((c .before)) .long .slots-c
+slice-reshare-prefix-judge c = opens ((c .before .before .before .before .before .before .before .before .before .before .before .before .before .before .before)) (opening ((c .before))) .long .slots-c
 
 slice-aggregate-judge : tie.Need-slice-aggregate-judge
-slice-aggregate-judge c = sym (length-take-le (c .before .before .before .before .before .before .before .before .before .before .before .before .before .before .before .before .args .sizes .«reassembly_slots») (now (c .before .before .before .before .before .before .before .before .before .before .before .before .before .before .before .before .args .slots)) (opened ((c .before .before)) .long .slots-c))
+slice-aggregate-judge c = slots-of ((c .before .before .before .before .before .before .before .before .before .before .before .before .before .before .before .before)) (opening ((c .before .before)))
 
 judge-requires : tie.Need-judge-requires
-judge-requires c κs = (room ((c .before .before .before)) .table, c .before .before .if1 .left)
+judge-requires c κs = (room ((c .before .before .before .before .before .before .before .before .before .before .before .before .before .before .before .before .before)) (opening ((c .before .before .before))) .table, c .before .before .if1 .left)
 
 slice-relend-prefix-perform : tie.Need-slice-relend-prefix-perform
-slice-relend-prefix-perform c = opened ((c .before .before .before .before)) .long .slots-c
+slice-relend-prefix-perform c = opens ((c .before .before .before .before .before .before .before .before .before .before .before .before .before .before .before .before .before .before)) (opening ((c .before .before .before .before))) .long .slots-c
 
 slice-aggregate-perform : tie.Need-slice-aggregate-perform
-slice-aggregate-perform c = sym (length-take-le (c .before .before .before .before .before .before .before .before .before .before .before .before .before .before .before .before .before .before .before .args .sizes .«reassembly_slots») (now (c .before .before .before .before .before .before .before .before .before .before .before .before .before .before .before .before .before .before .before .args .slots)) (opened ((c .before .before .before .before .before)) .long .slots-c))
+slice-aggregate-perform c = slots-of ((c .before .before .before .before .before .before .before .before .before .before .before .before .before .before .before .before .before .before .before)) (opening ((c .before .before .before .before .before)))
 
 perform-requires : tie.Need-perform-requires
-perform-requires c κs = (room ((c .before .before .before .before .before .before .before .before .before)), c .before .before .before .before .before .before .before .before .if1 .left, c .before .before .before .before .before .judge .ensures)
+perform-requires c κs = (room ((c .before .before .before .before .before .before .before .before .before .before .before .before .before .before .before .before .before .before .before .before .before .before .before)) (opening ((c .before .before .before .before .before .before .before .before .before))), c .before .before .before .before .before .before .before .before .if1 .left, c .before .before .before .before .before .judge .ensures)
 
 same-length-11 : tie.Need-same-length-11
 same-length-11 c = search needs
@@ -114,10 +134,9 @@ same-length-15 : tie.Need-same-length-15
 same-length-15 c = search needs
 
 returns-3 : tie.Need-returns-3
-unfolding decided
 returns-3 c =
-    let a = c .before .before .before .before .before .before .before .before .before .before .before .before .before .before .before .before .before .before .before .before .before .before .before .before .before .before .before .before .before .before .before .before .before .before .args in
-    done (a .sizes) (whole ((c .before .before .before .before .before .before .before .before .before .before .before .before .before .before .before .before .before .before .before .before .before .before .before .before .before .before .before .before .before .before .before .before .before .before))) (a .fragment) (now (a .payload)) (now (a .output)) (c .before .before .before .before .before .before .before .before .before .before .before .before .before .before .before .before .judge .result) _ _ _ _ _ _ (rw (opening ((c .before .before .before .before .before .before .before .before .before .before .before .before .before .before .before .before .before .before .before .before)), le-ltb _ _ (c .before .before .before .before .before .before .before .before .before .before .before .before .before .before .before .before .before .before .before .if1 .left)) (sym (c .before .before .before .before .before .before .before .before .before .before .before .before .before .before .before .before .judge .ensures))) (c .before .before .before .before .before .before .before .before .before .before .perform .ensures)
+    let s = (c .before .before .before .before .before .before .before .before .before .before .before .before .before .before .before .before .before .before .before .before .before .before .before .before .before .before .before .before .before .before .before .before .before .before) in
+    done (s .args .sizes) (whole s) (s .args .fragment) (now (s .args .payload)) (now (s .args .output)) (c .before .before .before .before .before .before .before .before .before .before .before .before .before .before .before .before .judge .result) _ _ _ _ _ _ (judged ((c .before .before .before .before .before .before .before .before .before .before .before .before .before .before .before .before))) (c .before .before .before .before .before .before .before .before .before .before .perform .ensures)
 
 pub handle-fragment-spec : {M : Type 1} → statement M
 handle-fragment-spec =
