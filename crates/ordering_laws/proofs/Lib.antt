@@ -4,3 +4,4 @@ pub mod Removed
 pub mod Map
 pub mod Stays
 pub mod Filled
+pub mod Run
