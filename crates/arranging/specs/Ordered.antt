@@ -1,6 +1,6 @@
 -- The ordered streams of an end: stream j has the places 64 j to 64 j + 63 of the tables, and 64 * F bytes from j * (64 * F) on.
-use Prim.Native.Nat.{ℕ, _+_, _*_, _≤_, _<_}
-use mathlib.Core.Bool.{cond}
+use Prim.Native.Nat.{ℕ, zero, suc, _+_, _*_, _≤_, _<_}
+use mathlib.Core.Bool.{Bool, true, cond, _&&_}
 use mathlib.Core.List.{List, _++_}
 use mathlib.Core.Path.{_≡_}
 use lib.Dec.{ltb, eqb}
@@ -12,10 +12,11 @@ use Rattle.ordering.specs.declared.Arranged.{Arranged}
 use Rattle.ordering.specs.declared.Arranged.the-variants.{Out, Held, Old, Refused}
 use Rattle.ordering.specs.State.{State, lending, fresh, written, numbered}
 use Rattle.ordering.specs.Take.{nextOf, takenOut, taken}
+use Rattle.ordering.specs.Gate.{sound}
 use Rattle.ordering.specs.Room.{Room}
 use Rattle.ordering.specs.declared.Taken.{Taken}
 use Rattle.ordering.specs.declared.Taken.the-variants.{Item, Nothing, Refused as NotTaken}
-use Rattle.arranging.specs.Ids.{placeOf, madeAt, noIds}
+use Rattle.arranging.specs.Ids.{placeOf, soundIds, madeAt, noIds}
 use Rattle.arranging.specs.declared.ordered.Planned.{Planned}
 use Rattle.arranging.specs.declared.ordered.AfterTake.{AfterTake}
 use Rattle.arranging.specs.declared.ordered.NewItem.{NewItem}
@@ -112,3 +113,12 @@ numberedAt s j id =
       item = numbered (streamAt s j) .item;
       streams = record { known = madeAt (s .known) j id; streams = set (s .streams) j (numbered (streamAt s j) .stream) };
     }
+
+-- not 13: which streams there are, and each of them
+unfoldable pub eachSound : ℕ → OrderingStreams → List ℕ → List ℕ → ℕ → Bool
+eachSound f s index lengths zero = true
+eachSound f s index lengths (suc j) =
+    eachSound f s index lengths j && sound f (streamAt s j) (part index (j * 64) 64) (part lengths (j * 64) 64)
+
+unfoldable pub soundAll : ℕ → OrderingStreams → List ℕ → List ℕ → Bool
+soundAll f s index lengths = soundIds (s .known) && eachSound f s index lengths (s .known .made)

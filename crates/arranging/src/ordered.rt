@@ -3,7 +3,8 @@ ghost use mathlib.Core.Path.{_≡_};
 ghost use Prim.Native.Nat.{ℕ, _*_, _≤_, _<_};
 ghost use lib.ListN.{length, set};
 ghost use Rattle.arranging.specs.Ids.{madeAt};
-ghost use Rattle.arranging.specs.Ordered.{noStreams, streamAt, planOn, lendingAll, arrangedOn, stateAt, storedAt, LeavesAll, RoomForAll, part, TakesOn, numberedAt};
+ghost use Rattle.arranging.specs.Ordered.{noStreams, streamAt, planOn, lendingAll, arrangedOn, stateAt, storedAt, LeavesAll, RoomForAll, part, TakesOn, numberedAt, soundAll};
+ghost use Rattle.ordering.specs.Gate.{sound as soundness};
 ghost use Rattle.ordering.specs.Arrange.{arranged, planOf};
 use crate::ids::StreamIds;
 use ordering::Arranged;
@@ -179,4 +180,33 @@ pub fn number_item(streams: OrderingStreams, j: usize, id: u8) -> NewItem
         item,
         streams: streams.with(j, id, after),
     }
+}
+
+// Not 13. For the crates above: requires tables of 4 x 64 places.
+pub fn sound(streams: OrderingStreams, f: usize, index: &[u32], lengths: &[u16]) -> bool
+    requires { ⌜ (256 ≤ length (now index)) × (256 ≤ length (now lengths)) ⌝ }
+    ensures { λ r. ⌜ r ≡ soundAll f streams (now (index .entry)) (now (lengths .entry)) ⌝ }
+{
+    let known = streams.known;
+    if !known.sound() {
+        return false;
+    }
+    let made = known.made;
+    let mut j: usize = 0;
+    while j < made {
+        if !sound_at(streams, f, index, lengths, j) {
+            return false;
+        }
+        j += 1;
+    }
+    true
+}
+
+fn sound_at(streams: OrderingStreams, f: usize, index: &[u32], lengths: &[u16], j: usize) -> bool
+    requires { ⌜ (256 ≤ length (now index)) × (256 ≤ length (now lengths)) × (j < 4) ⌝ }
+    ensures { λ r. ⌜ r ≡ soundness f (streamAt streams j) (part (now (index .entry)) (j * 64) 64) (part (now (lengths .entry)) (j * 64) 64) ⌝ }
+{
+    let at = j * 64;
+    let stream = streams.at(j);
+    ordering::gate::sound(stream, f, &index[at..at + 64], &lengths[at..at + 64])
 }
