@@ -6,10 +6,9 @@ use mathlib.Core.Path.{_≡_}
 use lib.Dec.{ltb, eqb}
 use lib.ListN.{length, getD, take, drop, set, replicate}
 use Rattle.terms.specs.declared.Refusal.the-variants.{NoStream}
-use Rattle.ordering.specs.Arrange.{planOf, arranged}
+use Rattle.ordering.specs.Arrange.{planOf}
 use Rattle.ordering.specs.declared.OrderingStream.{OrderingStream}
-use Rattle.ordering.specs.declared.Arranged.{Arranged}
-use Rattle.ordering.specs.declared.Arranged.the-variants.{Out, Held, Old, Refused}
+use Rattle.ordering.specs.declared.Arranged.the-variants.{Refused}
 use Rattle.ordering.specs.State.{State, lending, fresh, written, numbered}
 use Rattle.ordering.specs.Take.{nextOf, takenOut, taken}
 use Rattle.ordering.specs.Gate.{sound}
@@ -82,13 +81,6 @@ unfoldable pub planOn : OrderingStreams → List ℕ → ℕ → ℕ → Planned
 planOn s index id i =
     cond (eqb (placeOf (s .known) id) 4) (record { at = 4; plan = Refused NoStream })
     (record { at = placeOf (s .known) id; plan = planOf (streamAt s (placeOf (s .known) id)) (part index (placeOf (s .known) id * 64) 64) i })
-
--- "a stream is made by its first accepted item": a refused one makes none and changes nothing
-abbrev pub arrangedOn : Arranged → ℕ → ℕ → ℕ → ℕ → List ℕ → States → States
-arrangedOn Out j f id i payload s = storedAt f s j id (arranged Out f i payload (stateAt f s j))
-arrangedOn (Held k) j f id i payload s = storedAt f s j id (arranged (Held k) f i payload (stateAt f s j))
-arrangedOn Old j f id i payload s = storedAt f s j id (arranged Old f i payload (stateAt f s j))
-arrangedOn (Refused why) j f id i payload s = s
 
 -- the item that is expected on the stream with an id; on one that is not made there is none
 unfoldable pub nextOn : ℕ → States → ℕ → Taken

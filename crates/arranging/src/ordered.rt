@@ -3,7 +3,7 @@ ghost use mathlib.Core.Path.{_≡_};
 ghost use Prim.Native.Nat.{ℕ, _*_, _≤_, _<_};
 ghost use lib.ListN.{length, set};
 ghost use Rattle.arranging.specs.Ids.{madeAt};
-ghost use Rattle.arranging.specs.Ordered.{noStreams, streamAt, planOn, lendingAll, arrangedOn, stateAt, storedAt, LeavesAll, RoomForAll, part, TakesOn, numberedAt, soundAll};
+ghost use Rattle.arranging.specs.Ordered.{noStreams, streamAt, planOn, lendingAll, stateAt, storedAt, LeavesAll, RoomForAll, part, TakesOn, numberedAt, soundAll};
 ghost use Rattle.ordering.specs.Gate.{sound as soundness};
 ghost use Rattle.ordering.specs.Arrange.{arranged, planOf};
 use crate::ids::StreamIds;
@@ -92,7 +92,8 @@ pub fn judge(streams: OrderingStreams, index: &[u32], id: u8, item: ItemId) -> P
     }
 }
 
-// Carries out an accepted plan on the stream at place j. For the crates above: requires sound streams and the item's own plan.
+// Carries out a plan on the stream at place j, which is made: a caller returns before this where the plan is a refusal. For the
+// crates above: requires sound streams and the item's own plan.
 pub fn perform(
     streams: OrderingStreams,
     f: usize,
