@@ -26,11 +26,11 @@ pub fn none() -> State {
 }
 
 pub fn step(state: State, slots: &mut [u32], tag: u8, body: &[u8], before: Said) -> Done {
-    let length = length_of(tag);
-    if length == ANOTHERS {
+    let form = form_of(tag);
+    if form == script::ANOTHERS {
         return answered(state, before);
     }
-    if body.len() != length {
+    if !script::fits(form, body.len()) {
         return answered(state, Said::Bad);
     }
     perform(
@@ -42,15 +42,12 @@ pub fn step(state: State, slots: &mut [u32], tag: u8, body: &[u8], before: Said)
     )
 }
 
-// The length of a tag that is no tag of this module.
-const ANOTHERS: usize = 65536;
-
-fn length_of(tag: u8) -> usize {
+fn form_of(tag: u8) -> usize {
     match tag {
         0x10 | 0x11 | 0x12 | 0x13 => 2,
         0x14 => 0,
         0x18 | 0x19 => 4,
-        _ => ANOTHERS,
+        _ => script::ANOTHERS,
     }
 }
 
@@ -158,7 +155,7 @@ fn entries(state: State, slots: &[u32]) -> Said {
     if state.size == 0 {
         return script::missing();
     }
-    print::say(b"entries", [0, 0, 0, 0]);
+    print::text(b"entries");
     let size = state.size;
     if size <= slots.len() {
         list(&slots[0..size]);
@@ -170,7 +167,7 @@ fn entries(state: State, slots: &[u32]) -> Said {
 fn list(slots: &[u32]) {
     let mut n = least(slots, 0);
     if n == NONE {
-        print::say(b" -", [0, 0, 0, 0]);
+        print::text(b" -");
     }
     let mut i: usize = 0;
     while i < slots.len() {

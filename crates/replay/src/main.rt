@@ -4,43 +4,66 @@
 //
 // A module of operations has a `step`, which does nothing where the tag is not its own: a field goes through them all.
 mod buffer;
+mod ordered;
 mod print;
 mod script;
+mod sequenced;
 
 use script::Field;
 use script::Said;
 use script::Window;
 
-// Where a run stands: whether it goes on, what of the input is left, and the counters of every object that a script can
-// make.
+// Whether a run goes on, and the counters of every object that a script can make.
 struct Run {
     on: bool,
-    window: Window,
     buffer: buffer::State,
+    ordered: ordered::State,
+    sequenced: sequenced::State,
 }
 
 // A proved loop has to end, and nothing says that the input does: it counts its turns down, from a number that no run
 // uses up.
 fn main() {
-    let mut input = [0u8; 196608];
-    let mut slots = [0u32; 64];
+    let input: &mut [u8] = &mut [0u8; 196608];
+    let slots: &mut [u32] = &mut [0u32; 64];
+    let index: &mut [u32] = &mut [0u32; 64];
+    let lengths: &mut [u16] = &mut [0u16; 64];
+    let bytes: &mut [u8] = &mut [0u8; 65536];
+    let output: &mut [u8] = &mut [0u8; 16401];
+    let mut window = Window::new();
     let mut run = Run {
         on: true,
-        window: Window::new(),
         buffer: buffer::none(),
+        ordered: ordered::none(),
+        sequenced: sequenced::none(),
     };
     let mut turns = u64::MAX;
-    while turns > 0 && run.on {
+    loop {
+        window = window.filled(input);
+        let field = window.field(input);
+        window = window.after(field);
+        run = answer(run, field, input, slots, index, lengths, bytes, output);
+        if !run.on {
+            return;
+        }
+        if turns == 0 {
+            return;
+        }
         turns -= 1;
-        run = turn(run, &mut input, &mut slots);
     }
 }
 
-// Reads a field, and gives it to all modules.
-fn turn(run: Run, input: &mut [u8], slots: &mut [u32]) -> Run {
-    let read = run.window;
-    let window = read.filled(input);
-    let field = window.field(input);
+// Gives a field to all modules.
+fn answer(
+    run: Run,
+    field: Field,
+    input: &[u8],
+    slots: &mut [u32],
+    index: &mut [u32],
+    lengths: &mut [u16],
+    bytes: &mut [u8],
+    output: &mut [u8],
+) -> Run {
     let Field::Whole(tag, start, end) = field else {
         return stopped(run, field);
     };
@@ -48,11 +71,18 @@ fn turn(run: Run, input: &mut [u8], slots: &mut [u32]) -> Run {
     let said = comment(tag, body);
     let buffer = buffer::step(run.buffer, slots, tag, body, said);
     let said = buffer.said;
+    let ordered = ordered::step(run.ordered, index, lengths, bytes, output, tag, body, said);
+    let said = ordered.said;
+    let sequenced = sequenced::step(run.sequenced, tag, body, said);
+    let said = sequenced.said;
     let buffer = buffer.state;
+    let ordered = ordered.state;
+    let sequenced = sequenced.state;
     Run {
         on: has_line(said),
-        window: window.after(end),
         buffer,
+        ordered,
+        sequenced,
     }
 }
 
@@ -71,9 +101,9 @@ fn comment(tag: u8, body: &[u8]) -> Said {
     if tag != 0 {
         return Said::Nothing;
     }
-    io::write_all(1, b"# ");
-    io::write_all(1, body);
-    io::write_all(1, b"\n");
+    print::text(b"# ");
+    print::text(body);
+    print::text(b"\n");
     Said::Line
 }
 
@@ -87,5 +117,5 @@ fn has_line(said: Said) -> bool {
 }
 
 fn bad() {
-    print::say(b"bad\n", [0, 0, 0, 0]);
+    print::text(b"bad\n");
 }

@@ -1,6 +1,10 @@
 // How a line writes words, numbers and bytes. What one call prints waits in a text of its own, up to `at`, and goes to
 // standard output at its end or when the text is full.
 
+pub fn text(s: &[u8]) {
+    io::write_all(1, s);
+}
+
 // Prints words, in which `%` stands for the next number in decimal, `&` for the next as a 32-bit field (`0x` and eight
 // capital hex digits), and `?` for `yes` where the next is 1, else `no`.
 pub fn say(words: &[u8], numbers: [u64; 4]) {
@@ -20,7 +24,7 @@ pub fn say(words: &[u8], numbers: [u64; 4]) {
 // Prints two lower-case hex digits for each byte, `-` where there is none.
 pub fn bytes(s: &[u8]) {
     if s.len() == 0 {
-        return say(b"-", [0, 0, 0, 0]);
+        return text(b"-");
     }
     let mut text = [0u8; 256];
     let mut at: usize = 0;

@@ -10,8 +10,21 @@ pub enum Said {
 
 // The line of an operation whose object was never made.
 pub fn missing() -> Said {
-    print::say(b"missing\n", [0, 0, 0, 0]);
+    print::text(b"missing\n");
     Said::Line
+}
+
+// The form of a tag's body is how many bytes it has; with MORE, how many it has at least. ANOTHERS is the form of a tag
+// that is not the module's own.
+pub const MORE: usize = 65536;
+
+pub const ANOTHERS: usize = 131072;
+
+pub fn fits(form: usize, length: usize) -> bool {
+    if form < MORE {
+        return length == form;
+    }
+    form - MORE <= length
 }
 
 // A field: the input has ended, or ends inside it; or its tag, and where its body starts and ends.
@@ -79,8 +92,11 @@ impl Window {
         Field::Whole(input[from], from + 3, sum(from + 3, length))
     }
 
-    // What is left after a field that ended there.
-    pub fn after(self, end: usize) -> Window {
+    // What is left after a field.
+    pub fn after(self, field: Field) -> Window {
+        let Field::Whole(_, _, end) = field else {
+            return self;
+        };
         Window {
             from: end,
             to: self.to,
@@ -95,6 +111,11 @@ pub fn part(bytes: &[u8], start: usize, end: usize) -> &[u8] {
         return &bytes[start..end];
     }
     &bytes[..0]
+}
+
+// The bytes from a place on.
+pub fn rest(bytes: &[u8], start: usize) -> &[u8] {
+    part(bytes, start, bytes.len())
 }
 
 // The two bytes at a place, 0 where they are not there.

@@ -1,15 +1,31 @@
 -- The turns that are left fall.
 use borrow.Author.Needs.{needs}
-use mathlib.Core.Path.{_≡_}
-use lib.ListN.{length}
 use Rattle.replay.proofs.main.Statement.{statement}
 use Rattle.replay.proofs.main.Tie as tie
 
 abbrev Inv-loop : tie.InvT-loop
-Inv-loop input₀ slots₀ run₀ turns₀ input slots run turns = (length input ≡ 196608) × (length slots ≡ 64)
+Inv-loop input₀ slots₀ index₀ lengths₀ bytes₀ output₀ window₀ run₀ turns₀ input slots index lengths bytes output window run turns = Unit {0}
 
 abbrev μ-loop : tie.MeasureT-loop
-μ-loop input₀ slots₀ run₀ turns₀ input slots run turns = turns
+μ-loop input₀ slots₀ index₀ lengths₀ bytes₀ output₀ window₀ run₀ turns₀ input slots index lengths bytes output window run turns = turns
+
+slice-aggregate-input : tie.Need-slice-aggregate-input Inv-loop μ-loop
+slice-aggregate-input c = search needs
+
+slice-aggregate-slots : tie.Need-slice-aggregate-slots Inv-loop μ-loop
+slice-aggregate-slots c = search needs
+
+slice-aggregate-index : tie.Need-slice-aggregate-index Inv-loop μ-loop
+slice-aggregate-index c = search needs
+
+slice-aggregate-lengths : tie.Need-slice-aggregate-lengths Inv-loop μ-loop
+slice-aggregate-lengths c = search needs
+
+slice-aggregate-bytes : tie.Need-slice-aggregate-bytes Inv-loop μ-loop
+slice-aggregate-bytes c = search needs
+
+slice-aggregate-output : tie.Need-slice-aggregate-output Inv-loop μ-loop
+slice-aggregate-output c = search needs
 
 new-requires : tie.Need-new-requires Inv-loop μ-loop
 new-requires c κs = search needs
@@ -17,26 +33,26 @@ new-requires c κs = search needs
 none-requires : tie.Need-none-requires Inv-loop μ-loop
 none-requires c κs = search needs
 
+none-requires-2 : tie.Need-none-requires-2 Inv-loop μ-loop
+none-requires-2 c κs = search needs
+
+none-requires-3 : tie.Need-none-requires-3 Inv-loop μ-loop
+none-requires-3 c κs = search needs
+
 loop-holds : tie.Need-loop-holds Inv-loop μ-loop
 loop-holds c = search needs
 
-sub-turns : tie.Need-sub-turns Inv-loop μ-loop
-sub-turns c = search needs
+filled-requires : tie.Need-filled-requires Inv-loop μ-loop
+filled-requires c κs = search needs
 
-slice-aggregate-turn : tie.Need-slice-aggregate-turn Inv-loop μ-loop
-slice-aggregate-turn c = search needs
+field-requires : tie.Need-field-requires Inv-loop μ-loop
+field-requires c κs = search needs
 
-slice-aggregate-turn-2 : tie.Need-slice-aggregate-turn-2 Inv-loop μ-loop
-slice-aggregate-turn-2 c = search needs
+after-requires : tie.Need-after-requires Inv-loop μ-loop
+after-requires c κs = search needs
 
-turn-requires : tie.Need-turn-requires Inv-loop μ-loop
-turn-requires c κs = search needs
-
-loop-less : tie.Need-loop-less Inv-loop μ-loop
-loop-less c = search needs
-
-loop-again : tie.Need-loop-again Inv-loop μ-loop
-loop-again c = search needs
+answer-requires : tie.Need-answer-requires Inv-loop μ-loop
+answer-requires c κs = search needs
 
 returns : tie.Need-returns Inv-loop μ-loop
 returns c = search needs
@@ -44,20 +60,38 @@ returns c = search needs
 returns-2 : tie.Need-returns-2 Inv-loop μ-loop
 returns-2 c = search needs
 
+sub-turns : tie.Need-sub-turns Inv-loop μ-loop
+sub-turns c = search needs
+
+loop-less : tie.Need-loop-less Inv-loop μ-loop
+loop-less c = search needs
+
+loop-again : tie.Need-loop-again Inv-loop μ-loop
+loop-again c = search needs
+
 pub main-spec : {M : Type 1} → statement M
 main-spec =
     tie.close
     (tie.spec
     Inv-loop
     μ-loop
+    slice-aggregate-input
+    slice-aggregate-slots
+    slice-aggregate-index
+    slice-aggregate-lengths
+    slice-aggregate-bytes
+    slice-aggregate-output
     new-requires
     none-requires
+    none-requires-2
+    none-requires-3
     loop-holds
-    sub-turns
-    slice-aggregate-turn
-    slice-aggregate-turn-2
-    turn-requires
-    loop-less
-    loop-again
+    filled-requires
+    field-requires
+    after-requires
+    answer-requires
     returns
-    returns-2)
+    returns-2
+    sub-turns
+    loop-less
+    loop-again)

@@ -12,11 +12,11 @@ Inv-loop s text₀ at₀ i₀ text at i = (i ≤ length s) × (length text ≡ 2
 abbrev μ-loop : tie.MeasureT-loop
 μ-loop s text₀ at₀ i₀ text at i = length s - i
 
-slice-aggregate-say : tie.Need-slice-aggregate-say Inv-loop μ-loop
-slice-aggregate-say c = search needs
+slice-aggregate-text : tie.Need-slice-aggregate-text Inv-loop μ-loop
+slice-aggregate-text c = search needs
 
-say-requires : tie.Need-say-requires Inv-loop μ-loop
-say-requires c κs = search needs
+text-requires : tie.Need-text-requires Inv-loop μ-loop
+text-requires c κs = search needs
 
 returns : tie.Need-returns Inv-loop μ-loop
 returns c = search needs
@@ -57,8 +57,8 @@ bytes-spec =
     (tie.spec
     Inv-loop
     μ-loop
-    slice-aggregate-say
-    say-requires
+    slice-aggregate-text
+    text-requires
     returns
     loop-holds
     slice-aggregate-hex-byte
