@@ -1,4 +1,5 @@
 // Tags 50 to 55: one ordered stream.
+ghost use Prim.Native.Nat.{_<_};
 use crate::print;
 use crate::script;
 use crate::script::Said;
@@ -18,7 +19,7 @@ pub struct Done {
     pub said: Said,
 }
 
-// A stream after some items came out.
+// A stream, and how many items have come out of it.
 struct Handed {
     stream: OrderingStream,
     count: u64,
@@ -56,27 +57,14 @@ pub fn step(
         return answered(state, script::missing());
     }
     let stream = state.stream;
-    let n = script::number(body, 0);
-    let count = script::number(body, 2);
-    match tag {
-        0x53 => told(take(stream, index, lengths, bytes, output)),
-        0x54 => told(item_identifier(stream)),
-        0x55 => fed(
-            n,
-            count,
-            feed(stream, index, lengths, bytes, output, n, count),
-        ),
-        _ => told(arrange(
-            stream,
-            index,
-            lengths,
-            bytes,
-            output,
-            tag,
-            n,
-            script::rest(body, 2),
-        )),
+    if tag == 0x54 {
+        return item_identifier(stream);
     }
+    begin(tag);
+    let first = script::number(body, 0);
+    let payload = script::rest(body, 2);
+    let handed = feed(stream, index, lengths, bytes, output, tag, first, payload);
+    end(tag, first, payload, handed)
 }
 
 fn form_of(tag: u8) -> usize {
@@ -111,9 +99,67 @@ fn sizes() -> Sizes {
     }
 }
 
-// The line of tag 51, and of 52, which takes nothing.
-fn arrange(
+fn item_identifier(stream: OrderingStream) -> Done {
+    let new = stream.new_item_identifier();
+    let item = new.item;
+    let next = new.stream;
+    print::say(b"item %\n", [item.0 as u64, 0, 0, 0]);
+    told(next)
+}
+
+fn begin(tag: u8) {
+    if tag == 0x52 {
+        print::text(b"arrange ");
+    }
+    if tag == 0x53 {
+        print::text(b"take");
+    }
+}
+
+fn end(tag: u8, first: u16, payload: &[u8], handed: Handed) -> Done {
+    if tag == 0x55 {
+        let count = script::number(payload, 0);
+        print::say(
+            b"feed % % out %\n",
+            [first as u64, count as u64, handed.count, 0],
+        );
+    } else {
+        end_list(handed.count);
+    }
+    told(handed.stream)
+}
+
+fn end_list(count: u64) {
+    if count == 0 {
+        print::text(b" -");
+    }
+    print::text(b"\n");
+}
+
+// One item, or for tag 55 so many in a row.
+fn feed(
     stream: OrderingStream,
+    index: &mut [u32],
+    lengths: &mut [u16],
+    bytes: &mut [u8],
+    output: &mut [u8],
+    tag: u8,
+    first: u16,
+    payload: &[u8],
+) -> Handed {
+    let count = items(tag, payload);
+    let mut handed = Handed { stream, count: 0 };
+    let mut i: u16 = 0;
+    while i < count {
+        let n = std::num::wrapping_add_u16(first, i);
+        handed = feed_one(handed, index, lengths, bytes, output, tag, n, payload);
+        i += 1;
+    }
+    handed
+}
+
+fn feed_one(
+    before: Handed,
     index: &mut [u32],
     lengths: &mut [u16],
     bytes: &mut [u8],
@@ -121,7 +167,34 @@ fn arrange(
     tag: u8,
     n: u16,
     payload: &[u8],
-) -> OrderingStream {
+) -> Handed {
+    let come = arrange(before, index, lengths, bytes, output, tag, n, payload);
+    take(come, index, lengths, bytes, output, tag)
+}
+
+fn items(tag: u8, payload: &[u8]) -> u16 {
+    if tag == 0x55 {
+        return script::number(payload, 0);
+    }
+    1
+}
+
+// An item comes, but for tag 53; without payload for tag 55.
+fn arrange(
+    before: Handed,
+    index: &mut [u32],
+    lengths: &mut [u16],
+    bytes: &mut [u8],
+    output: &mut [u8],
+    tag: u8,
+    n: u16,
+    payload: &[u8],
+) -> Handed {
+    if tag == 0x53 {
+        return before;
+    }
+    let stream = before.stream;
+    let given = given(tag, payload);
     let after = ordering::arrange(
         sizes(),
         stream,
@@ -129,44 +202,52 @@ fn arrange(
         lengths,
         bytes,
         ItemId(n),
-        payload,
+        given,
         output,
     );
     let next = after.stream;
     let answer = after.answer;
-    let listed = word(tag, n, answer, payload);
-    if tag == 0x52 {
-        end(listed);
-        return next;
+    Handed {
+        stream: next,
+        count: std::num::wrapping_add_u64(before.count, come_out(tag, n, answer, given)),
     }
-    let handed = take_all(next, index, lengths, bytes, output, true);
-    end(listed || 0 < handed.count);
-    handed.stream
 }
 
-// How the line begins. The answer is whether its list has begun, or there is none.
-fn word(tag: u8, n: u16, answer: Arranged, payload: &[u8]) -> bool {
-    if tag == 0x52 {
-        print::text(b"arrange ");
+fn given(tag: u8, payload: &[u8]) -> &[u8] {
+    if tag == 0x55 {
+        return &payload[0..0];
     }
+    payload
+}
+
+// Tells an answer, but for tag 55, and how many items of the line's list there are so far; a refusal stands for the list.
+fn come_out(tag: u8, n: u16, answer: Arranged, payload: &[u8]) -> u64 {
     match answer {
         Arranged::Out => {
-            print::say(b"% out", [n as u64, 0, 0, 0]);
-            item(n, payload);
-            true
+            if tag != 0x55 {
+                print::say(b"% out", [n as u64, 0, 0, 0]);
+                item(n, payload);
+            }
+            1
         }
         Arranged::Held(_) => {
-            print::say(b"% held", [n as u64, 0, 0, 0]);
-            false
+            word(tag, b"% held", n, 0);
+            0
         }
         Arranged::Old => {
-            print::say(b"% old", [n as u64, 0, 0, 0]);
-            false
+            word(tag, b"% old", n, 0);
+            0
         }
         Arranged::Refused(why) => {
-            print::say(b"% refused %", [n as u64, terms::number(why) as u64, 0, 0]);
-            true
+            word(tag, b"% refused %", n, terms::number(why));
+            (tag != 0x55) as u64
         }
+    }
+}
+
+fn word(tag: u8, words: &[u8], n: u16, why: u8) {
+    if tag != 0x55 {
+        print::say(words, [n as u64, why as u64, 0, 0]);
     }
 }
 
@@ -179,149 +260,69 @@ fn item(n: u16, payload: &[u8]) {
     }
 }
 
-fn end(listed: bool) {
-    if !listed {
-        print::text(b" -");
-    }
-    print::text(b"\n");
-}
-
-// Takes until nothing comes: at most the 64 that can be held.
-fn take_all(
-    stream: OrderingStream,
-    index: &mut [u32],
-    lengths: &mut [u16],
-    bytes: &mut [u8],
-    output: &mut [u8],
-    aloud: bool,
-) -> Handed {
-    let mut stream = stream;
-    let mut count: u64 = 0;
-    while count < 64 {
-        let taken = take_one(stream, index, lengths, bytes, output, aloud);
-        if taken.count == 0 {
-            return Handed { stream, count };
-        }
-        stream = taken.stream;
-        count += 1;
-    }
-    Handed { stream, count }
-}
-
-fn take_one(
-    stream: OrderingStream,
-    index: &mut [u32],
-    lengths: &mut [u16],
-    bytes: &mut [u8],
-    output: &mut [u8],
-    aloud: bool,
-) -> Handed {
-    let expected = stream.expected_index;
-    let after = ordering::take(sizes(), stream, index, lengths, bytes, output);
-    let next = after.stream;
-    let answer = after.answer;
-    let Taken::Item(n) = answer else {
-        return Handed {
-            stream: next,
-            count: 0,
-        };
-    };
-    if aloud {
-        item(expected.0, script::part(output, 0, n));
-    }
-    Handed {
-        stream: next,
-        count: 1,
-    }
-}
-
+// Takes until nothing comes, at most the 64 that can be held; for tag 52 none, for 53 one.
 fn take(
-    stream: OrderingStream,
-    index: &mut [u32],
-    lengths: &mut [u16],
-    bytes: &mut [u8],
-    output: &mut [u8],
-) -> OrderingStream {
-    print::text(b"take");
-    let taken = take_one(stream, index, lengths, bytes, output, true);
-    end(0 < taken.count);
-    taken.stream
-}
-
-fn item_identifier(stream: OrderingStream) -> OrderingStream {
-    let new = stream.new_item_identifier();
-    let item = new.item;
-    print::say(b"item %\n", [item.0 as u64, 0, 0, 0]);
-    new.stream
-}
-
-// So many items in a row, without payload; how many came out.
-fn feed(
-    stream: OrderingStream,
-    index: &mut [u32],
-    lengths: &mut [u16],
-    bytes: &mut [u8],
-    output: &mut [u8],
-    first: u16,
-    count: u16,
-) -> Handed {
-    let mut handed = Handed { stream, count: 0 };
-    let mut i: u16 = 0;
-    while i < count {
-        handed = feed_one(
-            handed,
-            index,
-            lengths,
-            bytes,
-            output,
-            std::num::wrapping_add_u16(first, i),
-        );
-        i += 1;
-    }
-    handed
-}
-
-fn fed(first: u16, count: u16, handed: Handed) -> Done {
-    print::say(
-        b"feed % % out %\n",
-        [first as u64, count as u64, handed.count, 0],
-    );
-    told(handed.stream)
-}
-
-fn feed_one(
     before: Handed,
     index: &mut [u32],
     lengths: &mut [u16],
     bytes: &mut [u8],
     output: &mut [u8],
-    n: u16,
+    tag: u8,
 ) -> Handed {
-    let stream = before.stream;
-    let after = ordering::arrange(
-        sizes(),
-        stream,
-        index,
-        lengths,
-        bytes,
-        ItemId(n),
-        b"",
-        output,
-    );
-    let next = after.stream;
-    let answer = after.answer;
-    let out = std::num::wrapping_add_u64(before.count, out_count(answer));
-    let handed = take_all(next, index, lengths, bytes, output, false);
-    let stream = handed.stream;
-    Handed {
-        stream,
-        count: std::num::wrapping_add_u64(out, handed.count),
+    let mut handed = before;
+    let mut left = most(tag);
+    while 0 < left {
+        let count = handed.count;
+        handed = take_one(handed, index, lengths, bytes, output, tag);
+        left = fewer(left, handed.count == count);
+    }
+    handed
+}
+
+fn most(tag: u8) -> usize {
+    match tag {
+        0x52 => 0,
+        0x53 => 1,
+        _ => 64,
     }
 }
 
-fn out_count(answer: Arranged) -> u64 {
-    if let Arranged::Out = answer {
-        return 1;
+// One turn less, or none where nothing came.
+fn fewer(left: usize, nothing: bool) -> usize
+    requires { ⌜ 0 < left ⌝ }
+    ensures { λ r. ⌜ r < left ⌝ }
+{
+    if nothing {
+        return 0;
     }
-    0
+    left - 1
+}
+
+fn take_one(
+    before: Handed,
+    index: &mut [u32],
+    lengths: &mut [u16],
+    bytes: &mut [u8],
+    output: &mut [u8],
+    tag: u8,
+) -> Handed {
+    let stream = before.stream;
+    let expected = stream.expected_index;
+    let after = ordering::take(sizes(), stream, index, lengths, bytes, output);
+    let next = after.stream;
+    let answer = after.answer;
+    Handed {
+        stream: next,
+        count: std::num::wrapping_add_u64(before.count, taken(tag, expected.0, answer, output)),
+    }
+}
+
+fn taken(tag: u8, n: u16, answer: Taken, output: &[u8]) -> u64 {
+    let Taken::Item(length) = answer else {
+        return 0;
+    };
+    if tag != 0x55 {
+        item(n, script::part(output, 0, length));
+    }
+    1
 }

@@ -7,10 +7,13 @@ use Rattle.replay.proofs.ordered.feed.Statement.{statement}
 use Rattle.replay.proofs.ordered.feed.Tie as tie
 
 abbrev Inv-loop : tie.InvT-loop
-Inv-loop index₀ lengths₀ bytes₀ output₀ first count handed₀ i₀ index lengths bytes output handed i = (i ≤ count) × ((length index ≡ length index₀) × ((length lengths ≡ length lengths₀) × ((length bytes ≡ length bytes₀) × (length output ≡ length output₀))))
+Inv-loop index₀ lengths₀ bytes₀ output₀ tag first payload count handed₀ i₀ index lengths bytes output handed i = (i ≤ count) × ((length index ≡ length index₀) × ((length lengths ≡ length lengths₀) × ((length bytes ≡ length bytes₀) × (length output ≡ length output₀))))
 
 abbrev μ-loop : tie.MeasureT-loop
-μ-loop index₀ lengths₀ bytes₀ output₀ first count handed₀ i₀ index lengths bytes output handed i = count - i
+μ-loop index₀ lengths₀ bytes₀ output₀ tag first payload count handed₀ i₀ index lengths bytes output handed i = count - i
+
+items-requires : tie.Need-items-requires Inv-loop μ-loop
+items-requires c κs = search needs
 
 loop-holds : tie.Need-loop-holds Inv-loop μ-loop
 loop-holds c = search needs
@@ -51,6 +54,7 @@ feed-spec =
     (tie.spec
     Inv-loop
     μ-loop
+    items-requires
     loop-holds
     wrapping-add-u16-requires
     feed-one-requires
