@@ -4,6 +4,8 @@ ghost use mathlib.Core.Path.{_≡_};
 ghost use lib.ListN.{length};
 use serial::PacketNumber;
 
+mod packets;
+
 fn two_bytes(high: u8, low: u8) -> u16 {
     (high as u16) * 256 + (low as u16)
 }
@@ -38,6 +40,11 @@ fn work(row: u8, rounds: u64) -> u64 {
     match row {
         0 => inserts(rounds, 1),
         1 => inserts(rounds, 2),
+        2 => packets::acknowledged(rounds, 0),
+        3 => packets::acknowledged(rounds, 16),
+        4 => packets::acknowledged(rounds, 64),
+        5 => packets::acknowledged(rounds, 224),
+        6 => packets::dropped(rounds),
         _ => 0,
     }
 }
