@@ -25,4 +25,5 @@ fmt:
 
 # Why each must-fail edit is refused.
 reasons:
+	rt must-fail
 	tests/reasons
