@@ -68,6 +68,9 @@ module _ (f : ℕ) (s : State) (g : Good f s) (x : ℕ) (p : List ℕ) (free : p
   within : K * f + length p ≤ length (s .bytes)
   within = omega (arith, place-end K f free, g .room .bytes)
 
+  pub put-bytes : length (Put .bytes) ≡ length (s .bytes)
+  put-bytes = length-paste (s .bytes) (K * f) p (length p) within (le-refl (length p))
+
   pub put-good : Good f Put
   put-good =
       record {
@@ -77,7 +80,7 @@ module _ (f : ℕ) (s : State) (g : Good f s) (x : ℕ) (p : List ℕ) (free : p
               few = n-few;
               indices = rw (length-set (s .index) K x) (g .room .indices);
               lengths = rw (length-set (s .lengths) K (length p)) (g .room .lengths);
-              bytes = rw (length-paste (s .bytes) (K * f) p (length p) within (le-refl (length p))) (g .room .bytes);
+              bytes = rw put-bytes (g .room .bytes);
               short = λ j h.
                   ⊎-elim
                   (λ (e : j ≡ K). let i = g .room .lengths in rw (e, getD-set-same (s .lengths) K (length p) 0 (omega arith)) fits)

@@ -80,6 +80,9 @@ module _ (f : ℕ) (s : State) (g : Good f s) (n : ℕ) (here : nextPlace s < s 
   from-room : getD (s .lengths) L 0 ≤ length (drop (L * f) (s .bytes))
   from-room = let c = g .room .few in rw (length-drop (L * f) (s .bytes)) (omega (arith, last-short, g .room .bytes, place-end L f (omega arith)))
 
+  pub left-bytes : length (Left .bytes) ≡ length (s .bytes)
+  left-bytes = length-paste (s .bytes) (K * f) (drop (L * f) (s .bytes)) (getD (s .lengths) L 0) to-room from-room
+
   pub left-good : Good f Left
   left-good =
       record {
@@ -89,7 +92,7 @@ module _ (f : ℕ) (s : State) (g : Good f s) (n : ℕ) (here : nextPlace s < s 
               few = let c = g .room .few in omega arith;
               indices = rw (length-set (s .index) K (getD (s .index) L 0)) (g .room .indices);
               lengths = rw (length-set (s .lengths) K (getD (s .lengths) L 0)) (g .room .lengths);
-              bytes = rw (length-paste (s .bytes) (K * f) (drop (L * f) (s .bytes)) (getD (s .lengths) L 0) to-room from-room) (g .room .bytes);
+              bytes = rw left-bytes (g .room .bytes);
               short = λ j h. rw (length-from j) (g .room .short (from j) (from-lt j h));
             };
         once = λ i j p q key e.

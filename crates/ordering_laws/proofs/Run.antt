@@ -159,7 +159,7 @@ module _ (z : Sizes) (item : ℕ → List ℕ) where
     pub out-drained : planOf (s .stream) (s .index) I ≡ Out → Drained F item (suc k) (drain 65 z (arranged Out F I (item p) s) (written (some (item p)) out))
     out-drained a =
         drain-right 65 (suc k) (arranged Out F I (item p) s) (written (some (item p)) out) (rw a at opens)
-        (stepped-right F item k s I (item p) r quiet (arranged-good z s out e I (item p) short Out a)) few
+        (stepped-right F item k s I (item p) r quiet (arranged-good F s (r .good) I (item p) short Out a)) few
 
     pub next-right : k ≤ p + 32767 → p ≤ k + 32768 → Drained F item k (arrive z s out I (item p))
     next-right late near =

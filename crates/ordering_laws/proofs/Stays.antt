@@ -1,23 +1,25 @@
 -- A stream that passed the gate passes it after every call. Assumes nothing.
---     open-good, good-open     the gate's tests and `Good` say the same
-use Prim.Native.Nat.{ℕ, _+_, _*_, _≤_, _<_, min}
-use mathlib.Core.Path.{_≡_, refl, sym, ap, _∙_}
-use mathlib.Core.Bool.{Bool, true, false, not, cond}
+--     sound-good, good-sound       13's tests and `Good` say the same
+--     open-good, good-open         so do the gate's
+--     arranged-good, taken-good    what a call leaves of a good state is good
+use Prim.Native.Nat.{ℕ, _+_, _*_, _≤_, _<_}
+use mathlib.Core.Path.{_≡_, refl, sym, _∙_}
+use mathlib.Core.Bool.{true, false}
 use mathlib.Core.List.{List, _++_}
-use mathlib.Core.Logic.{_⊎_, inl, inr, ⊎-elim}
+use mathlib.Core.Logic.{⊎-elim}
 use native.Mathlib.Omega.{arith}
 use borrow.Author.Tests.{le-leb}
 use lib.ListN.{length, getD, take, drop, length-append, length-drop, length-take}
 use lib.Seq.{length-take-le, getD-take}
-use Rattle.laws.proofs.Cases.{case, both, off, lt-or-le}
+use Rattle.laws.proofs.Cases.{both, off, lt-or-le}
 use Rattle.terms.specs.Sizes.{inRange}
 use Rattle.terms.specs.declared.Sizes.{Sizes}
 use Rattle.keys.specs.Keys.{twice}
-use Rattle.keys.specs.Exact.{SameKey}
 use Rattle.keys.proofs.Twice.{exact, all-apart}
 use Rattle.ordering.specs.State.{State, lending, fresh, written, numbered}
 use Rattle.ordering.specs.Arrange.{planOf, handedOut, arranged}
 use Rattle.ordering.specs.Take.{nextPlace, nextOf, takenOut, taken}
+use Rattle.ordering.specs.Room.{Room}
 use Rattle.ordering.specs.Gate.{allFit, sound, gateOf, arrangeOf, takeOf}
 use Rattle.ordering.specs.declared.Arranged.{Arranged}
 use Rattle.ordering.specs.declared.Arranged.the-variants.{Out, Held, Old, Refused}
@@ -30,7 +32,6 @@ use Rattle.ordering.proofs.Planned.{held-place}
 use Rattle.ordering.proofs.Calls.{arrange-long, arrange-open, take-open}
 use Rattle.ordering_laws.specs.Held.{Good}
 use Rattle.ordering_laws.specs.Sound.{StaysSound}
-use Rattle.ordering_laws.proofs.Found.{same?}
 use Rattle.ordering_laws.proofs.Put.{put-good}
 use Rattle.ordering_laws.proofs.Removed.{left-good}
 use Rattle.ordering_laws.proofs.Map.{found-there}
@@ -61,7 +62,14 @@ once-of s long t j k a b key e =
         }))
         t
 
-good-sound : (f : ℕ) (s : State) → Good f s → sound f (s .stream) (s .index) (s .lengths) ≡ true
+pub sound-good : (f : ℕ) (s : State) → Room f s → sound f (s .stream) (s .index) (s .lengths) ≡ true → Good f s
+sound-good f s r e =
+    record {
+      room = r;
+      once = once-of s (let few = r .few in let long = r .indices in omega arith) (off (twice (take (s .stream .held) (s .index))) (sound-once f (s .stream) (s .index) (s .lengths) e));
+    }
+
+pub good-sound : (f : ℕ) (s : State) → Good f s → sound f (s .stream) (s .index) (s .lengths) ≡ true
 unfolding sound
 good-sound f s g =
     let few = g .room .few in
@@ -83,14 +91,7 @@ good-sound f s g =
 
 module _ (z : Sizes) (s : State) (out : List ℕ) where
   pub open-good : gateOf z s out ≡ Open → Good (z .«fragment_size») s
-  open-good e =
-      let o = opened z s out e in
-      record {
-        room = o .room;
-        once =
-            once-of s (let r = o .room in omega arith)
-            (off (twice (take (s .stream .held) (s .index))) (sound-once (z .«fragment_size») (s .stream) (s .index) (s .lengths) (o .state)));
-      }
+  open-good e = let o = opened z s out e in sound-good (z .«fragment_size») s (o .room) (o .state)
 
   pub good-open : inRange z ≡ true → Good (z .«fragment_size») s → 16 * z .«fragment_size» + 17 ≤ length out → gateOf z s out ≡ Open
   good-open r g h =
@@ -108,7 +109,7 @@ fresh-good f index lengths bytes a b c d =
     }
 
 -- what a state is good for depends on its tables and on how many are held
-recounted : (f : ℕ) (s s′ : State) → Good f s → s′ .stream .held ≡ s .stream .held → s′ .index ≡ s .index → s′ .lengths ≡ s .lengths → s′ .bytes ≡ s .bytes → Good f s′
+pub recounted : (f : ℕ) (s s′ : State) → Good f s → s′ .stream .held ≡ s .stream .held → s′ .index ≡ s .index → s′ .lengths ≡ s .lengths → s′ .bytes ≡ s .bytes → Good f s′
 recounted f s s′ g a b c d =
     record {
       room =
@@ -123,18 +124,23 @@ recounted f s s′ g a b c d =
       once = rw (a, b) (g .once);
     }
 
+module _ (f : ℕ) (s : State) (g : Good f s) where
+  pub arranged-good : (i : ℕ) (p : List ℕ) → length p ≤ f → (a : Arranged) → planOf (s .stream) (s .index) i ≡ a → Good f (arranged a f i p s)
+  arranged-good i p fits Out q = recounted f s (arranged Out f i p s) g refl refl refl refl
+  arranged-good i p fits (Held k) q =
+      let h = held-place (s .stream) (s .index) i k (g .room .few) (g .room .indices) (sym q) in
+      rw (h .0) (put-good f s g i p (rw (sym (h .0)) (h .1)) fits)
+  arranged-good i p fits Old q = g
+  arranged-good i p fits (Refused why) q = g
+
+  pub taken-good : (t : Taken) → nextOf s ≡ t → Good f (taken t f s)
+  taken-good (Item n) q = left-good f s g n (found-there s n q .0)
+  taken-good Nothing q = g
+  taken-good (NotTaken why) q = g
+
 module _ (z : Sizes) (s : State) (out : List ℕ) (e : gateOf z s out ≡ Open) where
   abbrev F : ℕ
   F = z .«fragment_size»
-
-  pub arranged-good : (i : ℕ) (p : List ℕ) → length p ≤ F → (a : Arranged) → planOf (s .stream) (s .index) i ≡ a → Good F (arranged a F i p s)
-  arranged-good i p fits Out q = recounted F s (arranged Out F i p s) (open-good z s out e) refl refl refl refl
-  arranged-good i p fits (Held k) q =
-      let g = open-good z s out e in
-      let h = held-place (s .stream) (s .index) i k (g .room .few) (g .room .indices) (sym q) in
-      rw (h .0) (put-good F s g i p (rw (sym (h .0)) (h .1)) fits)
-  arranged-good i p fits Old q = open-good z s out e
-  arranged-good i p fits (Refused why) q = open-good z s out e
 
   room-out : (a : Arranged) (p : List ℕ) → length p ≤ F → 16 * F + 17 ≤ length (written (handedOut a p) out)
   room-out Out p fits = let h = opened z s out e .output in rw (written-length p out (omega arith)) h
@@ -149,14 +155,9 @@ module _ (z : Sizes) (s : State) (out : List ℕ) (e : gateOf z s out ≡ Open) 
       (λ h.
       rw (arrange-open z s out i p e h)
       (good-open z (arranged (planOf (s .stream) (s .index) i) F i p s) (written (handedOut (planOf (s .stream) (s .index) i) p) out) (opened z s out e .sizes)
-      (arranged-good i p h (planOf (s .stream) (s .index) i) refl)
+      (arranged-good F s (open-good z s out e) i p h (planOf (s .stream) (s .index) i) refl)
       (room-out (planOf (s .stream) (s .index) i) p h)))
       (lt-or-le F (length p))
-
-  pub taken-good : (t : Taken) → nextOf s ≡ t → Good F (taken t F s)
-  taken-good (Item n) q = left-good F s (open-good z s out e) n (found-there s n q .0)
-  taken-good Nothing q = open-good z s out e
-  taken-good (NotTaken why) q = open-good z s out e
 
   room-taken : (t : Taken) → nextOf s ≡ t → 16 * F + 17 ≤ length (written (takenOut t F s) out)
   room-taken (Item n) q =
@@ -173,7 +174,7 @@ module _ (z : Sizes) (s : State) (out : List ℕ) (e : gateOf z s out ≡ Open) 
   pub after-take : gateOf z (taken (takeOf z s out) F s) (written (takenOut (takeOf z s out) F s) out) ≡ Open
   after-take =
       rw (take-open z s out e)
-      (good-open z (taken (nextOf s) F s) (written (takenOut (nextOf s) F s) out) (opened z s out e .sizes) (taken-good (nextOf s) refl) (room-taken (nextOf s) refl))
+      (good-open z (taken (nextOf s) F s) (written (takenOut (nextOf s) F s) out) (opened z s out e .sizes) (taken-good F s (open-good z s out e) (nextOf s) refl) (room-taken (nextOf s) refl))
 
 pub stays-sound : StaysSound
 stays-sound =
