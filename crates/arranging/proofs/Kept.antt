@@ -16,7 +16,7 @@ use Rattle.arranging.specs.Ordered.{part, put, streamAt, States, stateAt
 use Rattle.arranging.specs.declared.ids.StreamIds.{StreamIds}
 use Rattle.arranging.specs.declared.ordered.OrderingStreams.{OrderingStreams}
 
-put-same : (d : List ℕ) (a n : ℕ) → put d a n (part d a n) ≡ d
+pub put-same : (d : List ℕ) (a n : ℕ) → put d a n (part d a n) ≡ d
 put-same d a n = ap (λ (r : List ℕ). take a d ++ r) (take-append-drop n (drop a d)) ∙ take-append-drop a d
 
 module _ (n : StreamIds) (id : ℕ) (few : n .made ≤ length (n .ids)) (here : placeOf n id < n .made) where
@@ -25,7 +25,7 @@ module _ (n : StreamIds) (id : ℕ) (few : n .made ≤ length (n .ids)) (here : 
       sym (getD-take (n .made) (n .ids) (placeOf n id) 0 here)
       ∙ first-at id (take (n .made) (n .ids)) (rw (length-take-le (n .made) (n .ids) few) here)
 
-  made-same : madeAt n (placeOf n id) id ≡ n
+  pub made-same : madeAt n (placeOf n id) id ≡ n
   made-same =
       rw (ne-eqb (placeOf n id) (n .made) (λ e. omega arith))
       (ap (λ (l : List ℕ). stored l) (ap (λ (x : ℕ). set (n .ids) (placeOf n id) x) (sym own) ∙ set-getD (n .ids) (placeOf n id) 0))

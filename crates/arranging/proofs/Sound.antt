@@ -62,7 +62,7 @@ pub ids-four : (n : StreamIds) → soundIds n ≡ true → n .made ≤ 4
 unfolding soundIds
 ids-four n e = leb-true (n .made) 4 (first (leb (n .made) 4) _ e)
 
-fresh-at : (s : OrderingStreams) (j : ℕ) → s .known .made ≤ j → streamAt s j ≡ fresh
+pub fresh-at : (s : OrderingStreams) (j : ℕ) → s .known .made ≤ j → streamAt s j ≡ fresh
 unfolding streamAt
 fresh-at s j h = rw (le-ltb j (s .known .made) h)
 

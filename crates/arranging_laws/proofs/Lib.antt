@@ -1,0 +1,4 @@
+pub mod Apart
+pub mod Ids
+pub mod Stored
+pub mod Stays
