@@ -2,3 +2,4 @@ pub mod Once
 pub mod Parts
 pub mod Kept
 pub mod Sound
+pub mod Gates

@@ -1,3 +1,4 @@
 pub mod Ids
 pub mod Ordered
 pub mod Sequenced
+pub mod Calls

@@ -1,0 +1,69 @@
+-- The two calls of a user of the ordered streams, as a whole: by the stream's id, "1, 2, 13; then .. 5, .. 7, 6".
+use Prim.Native.Nat.{ℕ, _+_, _*_}
+use mathlib.Core.Bool.{Bool, true, false, cond, not, _||_}
+use mathlib.Core.List.{List}
+use mathlib.Core.Path.{_≡_}
+use lib.Dec.{ltb}
+use lib.ListN.{length}
+use Rattle.terms.specs.Sizes.{inRange}
+use Rattle.terms.specs.declared.Sizes.{Sizes}
+use Rattle.terms.specs.declared.Refusal.the-variants.{BadSizes, BadStorage, TooLong, BadState}
+use Rattle.ordering.specs.State.{written}
+use Rattle.ordering.specs.Arrange.{handedOut, arranged}
+use Rattle.ordering.specs.Take.{takenOut}
+use Rattle.ordering.specs.Gate.{through}
+use Rattle.ordering.specs.declared.Arranged.{Arranged}
+use Rattle.ordering.specs.declared.Arranged.the-variants.{Out, Held, Old, Refused}
+use Rattle.ordering.specs.declared.Taken.{Taken}
+use Rattle.ordering.specs.declared.Taken.the-variants.{Refused as NotTaken}
+use Rattle.ordering.specs.declared.gate.Gate.{Gate}
+use Rattle.ordering.specs.declared.gate.Gate.the-variants.{Open, Shut}
+use Rattle.arranging.specs.Ids.{placeOf}
+use Rattle.arranging.specs.Ordered.{States, LeavesAll, stateAt, storedAt, planOn, nextOn, takenOn, soundAll}
+use Rattle.arranging.specs.declared.ordered.AfterTake.{AfterTake}
+use Rattle.arranging.specs.declared.calls.AfterArrange.{AfterArrange}
+
+-- 2: a table of 4 x 64 places, the bytes of 4 x 64 items or "an output buffer of 16 x F + 17" is too short
+unfoldable pub tooShort : ℕ → States → List ℕ → Bool
+tooShort f s output =
+    ltb (length (s .index)) 256 || (ltb (length (s .lengths)) 256 || (ltb (length (s .bytes)) (256 * f) || ltb (length output) (16 * f + 17)))
+
+unfoldable pub gateOf : Sizes → States → List ℕ → Gate
+gateOf z s output =
+    cond (not (inRange z)) (Shut BadSizes)
+    (cond (tooShort (z .«fragment_size») s output) (Shut BadStorage)
+    (cond (not (soundAll (z .«fragment_size») (s .counters) (s .index) (s .lengths))) (Shut BadState)
+    Open))
+
+abbrev pub isRefused : Arranged → Bool
+isRefused Out = false
+isRefused (Held k) = false
+isRefused Old = false
+isRefused (Refused why) = true
+
+-- an item comes on the stream with an id: after 5, 7 and 6 as planned
+unfoldable pub arrangeOf : Sizes → States → ℕ → ℕ → List ℕ → List ℕ → Arranged
+arrangeOf z s id i payload output =
+    through (gateOf z s output) Refused
+    (cond (ltb (z .«fragment_size») (length payload)) (Refused TooLong)
+    (planOn (s .counters) (s .index) id i .plan))
+
+-- what each leaves: "a stream is made by its first accepted item", and a refused item makes none
+abbrev pub arrangedOn : Arranged → ℕ → ℕ → ℕ → List ℕ → States → States
+arrangedOn a f id i payload s =
+    cond (isRefused a) s
+    (storedAt f s (placeOf (s .counters .known) id) id (arranged a f i payload (stateAt f s (placeOf (s .counters .known) id))))
+
+pub record Arranges (z : Sizes) (s : States) (id i : ℕ) (payload output : List ℕ) (r : AfterArrange) (index lengths bytes out : List ℕ) : Type 0 where
+  pub answer-is : r .answer ≡ arrangeOf z s id i payload output
+  pub leaves : LeavesAll (arrangedOn (arrangeOf z s id i payload output) (z .«fragment_size») id i payload s) (r .streams) index lengths bytes
+  pub output-is : out ≡ written (handedOut (arrangeOf z s id i payload output) payload) output
+
+-- the item that is expected on the stream with an id is taken
+unfoldable pub takeOf : Sizes → States → ℕ → List ℕ → Taken
+takeOf z s id output = through (gateOf z s output) NotTaken (nextOn (z .«fragment_size») s id)
+
+pub record Takes (z : Sizes) (s : States) (id : ℕ) (output : List ℕ) (r : AfterTake) (index lengths bytes out : List ℕ) : Type 0 where
+  pub answer-is : r .answer ≡ takeOf z s id output
+  pub leaves : LeavesAll (takenOn (takeOf z s id output) (z .«fragment_size») id s) (r .streams) index lengths bytes
+  pub output-is : out ≡ written (takenOut (takeOf z s id output) (z .«fragment_size») (stateAt (z .«fragment_size») s (placeOf (s .counters .known) id))) output

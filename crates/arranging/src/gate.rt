@@ -1,0 +1,52 @@
+// 1, 2 and 13 for all ordered streams, which every call of a user tries first.
+ghost use mathlib.Core.Path.{_≡_};
+ghost use Rattle.arranging.specs.Ordered.{lendingAll};
+ghost use Rattle.arranging.specs.Calls.{gateOf, isRefused};
+use crate::ordered::OrderingStreams;
+use ordering::Arranged;
+use ordering::gate::Gate;
+use terms::Refusal;
+use terms::Sizes;
+
+pub fn check(
+    sizes: Sizes,
+    streams: OrderingStreams,
+    index: &[u32],
+    lengths: &[u16],
+    bytes: &[u8],
+    output: &[u8],
+) -> Gate
+    ensures { λ r. ⌜ r ≡ gateOf sizes (lendingAll streams (now (index .entry)) (now (lengths .entry)) (now (bytes .entry))) (now (output .entry)) ⌝ }
+{
+    if !sizes.in_range() {
+        return Gate::Shut(Refusal::BadSizes);
+    }
+    let f = sizes.fragment_size;
+    if index.len() < 256 {
+        return Gate::Shut(Refusal::BadStorage);
+    }
+    if lengths.len() < 256 {
+        return Gate::Shut(Refusal::BadStorage);
+    }
+    if bytes.len() < 256 * f {
+        return Gate::Shut(Refusal::BadStorage);
+    }
+    if output.len() < 16 * f + 17 {
+        return Gate::Shut(Refusal::BadStorage);
+    }
+    if !crate::ordered::sound(streams, f, index, lengths) {
+        return Gate::Shut(Refusal::BadState);
+    }
+    Gate::Open
+}
+
+pub fn refused(plan: Arranged) -> bool
+    ensures { λ r. ⌜ r ≡ isRefused plan ⌝ }
+{
+    match plan {
+        Arranged::Out => false,
+        Arranged::Held(_) => false,
+        Arranged::Old => false,
+        Arranged::Refused(_) => true,
+    }
+}
