@@ -2,3 +2,4 @@ pub mod Ids
 pub mod Ordered
 pub mod Sequenced
 pub mod Calls
+pub mod Sequence

@@ -3,13 +3,17 @@
 ghost use mathlib.Core.Path.{_≡_};
 ghost use Rattle.arranging.specs.Ordered.{lendingAll};
 ghost use Rattle.arranging.specs.Calls.{Arranges, Takes};
+ghost use Rattle.arranging.specs.Sequence.{toldOf, sequenced};
 use crate::gate;
 use crate::ordered;
 use crate::ordered::AfterTake;
 use crate::ordered::OrderingStreams;
+use crate::sequenced;
+use crate::sequenced::SequencingStreams;
 use ordering::Arranged;
 use ordering::Taken;
 use ordering::gate::Gate;
+use sequencing::Sequenced;
 use serial::ItemId;
 use terms::Refusal;
 use terms::Sizes;
@@ -99,4 +103,54 @@ pub fn take(
         id,
         output,
     )
+}
+
+// What becomes of an item that has come on a sequenced stream: one that goes out is the caller's own payload.
+pub enum SequenceAnswer {
+    Out,
+    Dropped,
+    Refused(Refusal),
+}
+
+pub struct AfterSequence {
+    pub answer: SequenceAnswer,
+    pub streams: SequencingStreams,
+}
+
+// An item has come on the sequenced stream with the id: it goes out, is dropped or is refused. Nothing is lent, so that of the
+// first three refusals only 13 can be.
+pub fn sequence(streams: SequencingStreams, id: u8, item: ItemId) -> AfterSequence
+    ensures { λ r. ⌜ r ≡ sequenced streams id item ⌝ }
+{
+    let known = streams.known;
+    if !known.sound() {
+        return AfterSequence {
+            answer: SequenceAnswer::Refused(Refusal::BadState),
+            streams,
+        };
+    }
+    let j = known.place(id);
+    if j == 4 {
+        return AfterSequence {
+            answer: SequenceAnswer::Refused(Refusal::NoStream),
+            streams,
+        };
+    }
+    let after = sequenced::arrange(streams, j, id, item);
+    let found = after.answer;
+    let answer = told(found);
+    let rest = after.streams;
+    AfterSequence {
+        answer,
+        streams: rest,
+    }
+}
+
+fn told(answer: Sequenced) -> SequenceAnswer
+    ensures { λ r. ⌜ r ≡ toldOf answer ⌝ }
+{
+    match answer {
+        Sequenced::Out => SequenceAnswer::Out,
+        Sequenced::Dropped => SequenceAnswer::Dropped,
+    }
 }
