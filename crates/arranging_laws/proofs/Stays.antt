@@ -1,14 +1,11 @@
 -- What each call leaves of streams that 13 does not refuse. Assumes nothing.
 use Prim.Native.Nat.{ℕ, _*_, _≤_, _<_}
 use mathlib.Core.Path.{_≡_, refl, sym, _∙_}
-use mathlib.Core.Bool.{true}
 use mathlib.Core.List.{List}
 use mathlib.Core.Logic.{⊎-elim}
 use native.Mathlib.Omega.{arith}
 use lib.ListN.{length, length-set}
-use lib.Seq.{getD-set-other}
 use Rattle.laws.proofs.Cases.{lt-or-le}
-use Rattle.keys.specs.Keys.{twice}
 use Rattle.ordering.specs.State.{State, lending, numbered}
 use Rattle.ordering.specs.Arrange.{planOf, arranged}
 use Rattle.ordering.specs.Take.{nextPlace, nextOf, taken}
@@ -21,18 +18,13 @@ use Rattle.ordering_laws.proofs.Put.{put-bytes}
 use Rattle.ordering_laws.proofs.Removed.{left-bytes}
 use Rattle.ordering_laws.proofs.Map.{found-there}
 use Rattle.ordering_laws.proofs.Stays.{arranged-good, taken-good, recounted}
-use Rattle.sequencing.specs.declared.SequencingStream.{SequencingStream}
-use Rattle.arranging.specs.Ids.{placeOf, soundIds, noIds}
-use Rattle.arranging.specs.Ordered.{States, noStreams, streamAt, stateAt, storedAt, nextOn, takenOn, soundAll}
-use Rattle.arranging.specs.Sequenced as sequenced
-use Rattle.arranging.specs.declared.sequenced.SequencingStreams.{SequencingStreams}
+use Rattle.arranging.specs.Ids.{placeOf}
+use Rattle.arranging.specs.Ordered.{States, stateAt, storedAt, nextOn, takenOn}
 use Rattle.arranging.proofs.Kept.{put-same, next-here, next-away, taken-back}
 use Rattle.arranging.proofs.Parts.{block-end, part-length}
 use Rattle.arranging.proofs.Sound.{all-ids, ids-four}
-use Rattle.arranging_laws.specs.Sound.{Whole, afterArrange, afterSend, StaysSound}
-use Rattle.arranging_laws.specs.Others.{OthersUntouched}
-use Rattle.arranging_laws.proofs.Ids.{made-whole}
-use Rattle.arranging_laws.proofs.Stored.{Fitting, made-other, all-of, stored-other, stored-whole, state-good}
+use Rattle.arranging_laws.specs.Sound.{Whole, afterArrange, afterSend}
+use Rattle.arranging_laws.proofs.Stored.{Fitting, stored-other, stored-whole, state-good}
 
 -- each stream of the four, made or not, is one of its own
 module _ (f : ℕ) (s : States) (w : Whole f s) (j : ℕ) (h : j < 4) where
@@ -133,47 +125,3 @@ module _ (f : ℕ) (s : States) (id : ℕ) (w : Whole f s) where
 
   pub send-others : (k : ℕ) → J < 4 → (k ≡ J → ⊥) → stateAt f (afterSend s id) k ≡ stateAt f s k
   send-others k h ne = rw (sym (sent-is h)) (stored-other f s w id h (Sent f s w J h) (sent-fits f s w J h) k ne)
-
-no-ids : soundIds noIds ≡ true
-unfolding soundIds twice
-no-ids = refl
-
-none-sound : (f : ℕ) (index lengths : List ℕ) → soundAll f noStreams index lengths ≡ true
-none-sound f index lengths = all-of f noStreams index lengths no-ids (λ j h. absurd (omega arith))
-
-pub stays-sound : StaysSound
-stays-sound =
-    record {
-      from-none = λ f index lengths bytes a b c d.
-          record {
-            small = a;
-            four-ids = refl;
-            four-streams = refl;
-            indices = b;
-            lengths = c;
-            bytes = d;
-            state = none-sound f index lengths;
-          };
-      by-arrange = λ f s id i p w h fits. after-arrange f s id w i p h fits;
-      by-take = λ f s id w. after-take f s id w;
-      by-send = λ f s id w h. after-send f s id w h;
-      ids-from-none = record { four-ids = refl; state = no-ids };
-      ids-by-arrange = λ s id i w h. made-whole (s .known) w id h;
-      ids-by-send = λ s id w h. made-whole (s .known) w id h;
-    }
-
--- the same of sequenced streams
-kept-sequenced : (s : SequencingStreams) (j id : ℕ) (t : SequencingStream) (k : ℕ) → (k ≡ j → ⊥)
-    → sequenced.streamAt (sequenced.storedAt s j id t) k ≡ sequenced.streamAt s k
-unfolding sequenced.streamAt
-kept-sequenced s j id t k ne = rw (made-other (s .known) j id k ne, getD-set-other (s .streams) j k t _ ne)
-
-pub others-untouched : OthersUntouched
-others-untouched =
-    record {
-      by-arrange = λ f s id i p k w h fits ne. arrange-others f s id w i p k h fits ne;
-      by-take = λ f s id k w ne. take-others f s id w k ne;
-      by-send = λ f s id k w h ne. send-others f s id w k h ne;
-      sequenced-by-arrange = λ s id i k ne. kept-sequenced s (placeOf (s .known) id) id _ k ne;
-      sequenced-by-send = λ s id k ne. kept-sequenced s (placeOf (s .known) id) id _ k ne;
-    }

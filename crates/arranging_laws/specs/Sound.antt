@@ -1,14 +1,19 @@
 -- From no streams on, in storage that goes from call to call unaltered, a call of the streams of a kind is never refused 13.
-use Prim.Native.Nat.{ℕ, _*_, _≤_, _<_}
+use Prim.Native.Nat.{ℕ, _+_, _*_, _≤_, _<_}
 use mathlib.Core.Path.{_≡_}
 use mathlib.Core.Bool.{true}
 use mathlib.Core.List.{List}
 use lib.ListN.{length}
+use Rattle.terms.specs.Sizes.{inRange}
+use Rattle.terms.specs.declared.Sizes.{Sizes}
 use Rattle.serial.specs.declared.ItemId.{ItemId}
 use Rattle.ordering.specs.Arrange.{planOf, arranged}
+use Rattle.ordering.specs.declared.gate.Gate.the-variants.{Open}
 use Rattle.arranging.specs.Ids.{placeOf, soundIds}
 use Rattle.arranging.specs.Ordered.{part, States, lendingAll, noStreams, streamAt, stateAt, storedAt, nextOn, takenOn, numberedAt, soundAll}
+use Rattle.arranging.specs.Calls.{gateOf, arrangeOf, arrangedOn, takeOf}
 use Rattle.arranging.specs.Sequenced as sequenced
+use Rattle.arranging.specs.Sequence as sequence
 use Rattle.arranging.specs.declared.ids.StreamIds.{StreamIds}
 use Rattle.arranging.specs.declared.sequenced.SequencingStreams.{SequencingStreams}
 
@@ -48,9 +53,18 @@ pub record StaysSound : Type 0 where
       → Whole f (afterArrange f s id i p)
   pub by-take : (f : ℕ) (s : States) (id : ℕ) → Whole f s → Whole f (takenOn (nextOn f s id) f id s)
   pub by-send : (f : ℕ) (s : States) (id : ℕ) → Whole f s → placeOf (s .counters .known) id < 4 → Whole f (afterSend s id)
+  -- and so what a user's calls leave, refused or not
+  pub by-arrange-call : (z : Sizes) (s : States) (id i : ℕ) (p out : List ℕ) → Whole (z .«fragment_size») s
+      → Whole (z .«fragment_size») (arrangedOn (arrangeOf z s id i p out) (z .«fragment_size») id i p s)
+  pub by-take-call : (z : Sizes) (s : States) (id : ℕ) (out : List ℕ) → Whole (z .«fragment_size») s
+      → Whole (z .«fragment_size») (takenOn (takeOf z s id out) (z .«fragment_size») id s)
+  -- which 13 does not refuse: with sizes in range and an output that is long enough the gate is open
+  pub opens : (z : Sizes) (s : States) (out : List ℕ) → inRange z ≡ true → Whole (z .«fragment_size») s → 16 * z .«fragment_size» + 17 ≤ length out
+      → gateOf z s out ≡ Open
   -- the same of sequenced streams
   pub ids-from-none : WholeIds (sequenced.noStreams .known)
   pub ids-by-arrange : (s : SequencingStreams) (id : ℕ) (i : ItemId) → WholeIds (s .known) → placeOf (s .known) id < 4
       → WholeIds (sequenced.arrangedAt s (placeOf (s .known) id) id i .streams .known)
   pub ids-by-send : (s : SequencingStreams) (id : ℕ) → WholeIds (s .known) → placeOf (s .known) id < 4
       → WholeIds (sequenced.numberedAt s (placeOf (s .known) id) id .streams .known)
+  pub ids-by-sequence-call : (s : SequencingStreams) (id : ℕ) (i : ItemId) → WholeIds (s .known) → WholeIds (sequence.sequenced s id i .streams .known)

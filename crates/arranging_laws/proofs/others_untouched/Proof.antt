@@ -1,4 +1,4 @@
-use Rattle.arranging_laws.proofs.Stays.{others-untouched}
+use Rattle.arranging_laws.proofs.Theorems.{others-untouched}
 use Rattle.arranging_laws.proofs.others_untouched.Statement.{statement}
 use Rattle.arranging_laws.proofs.others_untouched.Tie as tie
 

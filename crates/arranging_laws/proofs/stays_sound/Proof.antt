@@ -1,4 +1,4 @@
-use Rattle.arranging_laws.proofs.Stays.{stays-sound}
+use Rattle.arranging_laws.proofs.Theorems.{stays-sound}
 use Rattle.arranging_laws.proofs.stays_sound.Statement.{statement}
 use Rattle.arranging_laws.proofs.stays_sound.Tie as tie
 
