@@ -4,6 +4,7 @@
 //
 // A module of operations has a `step`, which does nothing where the tag is not its own: a field goes through them all.
 mod buffer;
+mod fragments;
 mod ordered;
 mod print;
 mod script;
@@ -13,36 +14,39 @@ use script::Field;
 use script::Said;
 use script::Window;
 
-// Whether a run goes on, and the counters of every object that a script can make.
+// Whether a run goes on, what has become of its last field, and the counters of every object that a script can make.
 struct Run {
     on: bool,
+    said: Said,
     buffer: buffer::State,
     ordered: ordered::State,
     sequenced: sequenced::State,
+    fragments: fragments::State,
 }
 
 // A proved loop has to end, and nothing says that the input does: it counts its turns down, from a number that no run
 // uses up.
 fn main() {
     let input: &mut [u8] = &mut [0u8; 196608];
+    let output: &mut [u8] = &mut [0u8; 16401];
     let slots: &mut [u32] = &mut [0u32; 64];
     let index: &mut [u32] = &mut [0u32; 64];
     let lengths: &mut [u16] = &mut [0u16; 64];
     let bytes: &mut [u8] = &mut [0u8; 65536];
-    let output: &mut [u8] = &mut [0u8; 16401];
+    let messages: &mut [u32] = &mut [0u32; 64];
+    let entry: &mut [u64] = &mut [0u64; 64];
+    let header: &mut [u64] = &mut [0u64; 64];
+    let rooms: &mut [u8] = &mut [0u8; 262144];
     let mut window = Window::new();
-    let mut run = Run {
-        on: true,
-        buffer: buffer::none(),
-        ordered: ordered::none(),
-        sequenced: sequenced::none(),
-    };
+    let mut run = fresh();
     let mut turns = u64::MAX;
     loop {
         window = window.filled(input);
         let field = window.field(input);
         window = window.after(field);
         run = answer(run, field, input, slots, index, lengths, bytes, output);
+        run = answer_fragments(run, field, input, messages, entry, header, rooms, output);
+        run = ended(run, field);
         if !run.on {
             return;
         }
@@ -53,7 +57,18 @@ fn main() {
     }
 }
 
-// Gives a field to all modules.
+fn fresh() -> Run {
+    Run {
+        on: true,
+        said: Said::Nothing,
+        buffer: buffer::none(),
+        ordered: ordered::none(),
+        sequenced: sequenced::none(),
+        fragments: fragments::none(),
+    }
+}
+
+// Gives a field to the first modules; `answer_fragments` gives it to the next.
 fn answer(
     run: Run,
     field: Field,
@@ -65,7 +80,7 @@ fn answer(
     output: &mut [u8],
 ) -> Run {
     let Field::Whole(tag, start, end) = field else {
-        return stopped(run, field);
+        return run;
     };
     let body = script::part(input, start, end);
     let said = comment(tag, body);
@@ -78,22 +93,77 @@ fn answer(
     let buffer = buffer.state;
     let ordered = ordered.state;
     let sequenced = sequenced.state;
+    let fragments = run.fragments;
     Run {
-        on: has_line(said),
+        on: true,
+        said,
         buffer,
         ordered,
         sequenced,
+        fragments,
     }
 }
 
-// No more fields: the script has ended, or ends inside one.
-fn stopped(run: Run, field: Field) -> Run {
-    if let Field::Cut = field {
-        bad();
+fn answer_fragments(
+    run: Run,
+    field: Field,
+    input: &[u8],
+    messages: &mut [u32],
+    entry: &mut [u64],
+    header: &mut [u64],
+    rooms: &mut [u8],
+    output: &mut [u8],
+) -> Run {
+    let Field::Whole(tag, start, end) = field else {
+        return run;
+    };
+    let body = script::part(input, start, end);
+    let said = run.said;
+    let before = run.fragments;
+    let done = fragments::step(
+        before,
+        messages,
+        entry,
+        header,
+        rooms,
+        output,
+        tag,
+        body,
+        said,
+    );
+    let said = done.said;
+    let fragments = done.state;
+    let buffer = run.buffer;
+    let ordered = run.ordered;
+    let sequenced = run.sequenced;
+    Run {
+        on: true,
+        said,
+        buffer,
+        ordered,
+        sequenced,
+        fragments,
     }
+}
+
+// After all modules: a field that had no line ends the run, and so does the script's end.
+fn ended(run: Run, field: Field) -> Run {
+    let said = run.said;
+    let on = goes_on(said, field);
     let mut next = run;
-    next.on = false;
+    next.on = on;
     next
+}
+
+fn goes_on(said: Said, field: Field) -> bool {
+    match field {
+        Field::End => false,
+        Field::Cut => {
+            bad();
+            false
+        }
+        Field::Whole(_, _, _) => has_line(said),
+    }
 }
 
 // Tag 00: a line of text.

@@ -133,6 +133,21 @@ fn joined(high: u8, low: u8) -> u16 {
     (high as u16) * 256 + (low as u16)
 }
 
+// The byte at a place, 0 where it is not there.
+pub fn byte(bytes: &[u8], at: usize) -> u8 {
+    if at < bytes.len() {
+        return bytes[at];
+    }
+    0
+}
+
+// The four bytes at a place, as two numbers.
+pub fn long(bytes: &[u8], at: usize) -> u32 {
+    let high = number(bytes, at);
+    let low = number(bytes, sum(at, 2));
+    (high as u32) * 65536 + (low as u32)
+}
+
 // a - b, 0 where b is more.
 fn difference(a: usize, b: usize) -> usize {
     if a < b {

@@ -4,13 +4,18 @@ use Rattle.replay.proofs.main.Statement.{statement}
 use Rattle.replay.proofs.main.Tie as tie
 
 abbrev Inv-loop : tie.InvT-loop
-Inv-loop input₀ slots₀ index₀ lengths₀ bytes₀ output₀ window₀ run₀ turns₀ input slots index lengths bytes output window run turns = Unit {0}
+Inv-loop input₀ output₀ slots₀ index₀ lengths₀ bytes₀ messages₀ entry₀ header₀ rooms₀ window₀ run₀ turns₀ input output slots index lengths bytes messages entry header rooms window run turns =
+    Unit {0}
 
 abbrev μ-loop : tie.MeasureT-loop
-μ-loop input₀ slots₀ index₀ lengths₀ bytes₀ output₀ window₀ run₀ turns₀ input slots index lengths bytes output window run turns = turns
+μ-loop input₀ output₀ slots₀ index₀ lengths₀ bytes₀ messages₀ entry₀ header₀ rooms₀ window₀ run₀ turns₀ input output slots index lengths bytes messages entry header rooms window run turns =
+    turns
 
 slice-aggregate-input : tie.Need-slice-aggregate-input Inv-loop μ-loop
 slice-aggregate-input c = search needs
+
+slice-aggregate-output : tie.Need-slice-aggregate-output Inv-loop μ-loop
+slice-aggregate-output c = search needs
 
 slice-aggregate-slots : tie.Need-slice-aggregate-slots Inv-loop μ-loop
 slice-aggregate-slots c = search needs
@@ -24,20 +29,23 @@ slice-aggregate-lengths c = search needs
 slice-aggregate-bytes : tie.Need-slice-aggregate-bytes Inv-loop μ-loop
 slice-aggregate-bytes c = search needs
 
-slice-aggregate-output : tie.Need-slice-aggregate-output Inv-loop μ-loop
-slice-aggregate-output c = search needs
+slice-aggregate-messages : tie.Need-slice-aggregate-messages Inv-loop μ-loop
+slice-aggregate-messages c = search needs
+
+slice-aggregate-entry : tie.Need-slice-aggregate-entry Inv-loop μ-loop
+slice-aggregate-entry c = search needs
+
+slice-aggregate-header : tie.Need-slice-aggregate-header Inv-loop μ-loop
+slice-aggregate-header c = search needs
+
+slice-aggregate-rooms : tie.Need-slice-aggregate-rooms Inv-loop μ-loop
+slice-aggregate-rooms c = search needs
 
 new-requires : tie.Need-new-requires Inv-loop μ-loop
 new-requires c κs = search needs
 
-none-requires : tie.Need-none-requires Inv-loop μ-loop
-none-requires c κs = search needs
-
-none-requires-2 : tie.Need-none-requires-2 Inv-loop μ-loop
-none-requires-2 c κs = search needs
-
-none-requires-3 : tie.Need-none-requires-3 Inv-loop μ-loop
-none-requires-3 c κs = search needs
+fresh-requires : tie.Need-fresh-requires Inv-loop μ-loop
+fresh-requires c κs = search needs
 
 loop-holds : tie.Need-loop-holds Inv-loop μ-loop
 loop-holds c = search needs
@@ -53,6 +61,12 @@ after-requires c κs = search needs
 
 answer-requires : tie.Need-answer-requires Inv-loop μ-loop
 answer-requires c κs = search needs
+
+answer-fragments-requires : tie.Need-answer-fragments-requires Inv-loop μ-loop
+answer-fragments-requires c κs = search needs
+
+ended-requires : tie.Need-ended-requires Inv-loop μ-loop
+ended-requires c κs = search needs
 
 returns : tie.Need-returns Inv-loop μ-loop
 returns c = search needs
@@ -76,20 +90,24 @@ main-spec =
     Inv-loop
     μ-loop
     slice-aggregate-input
+    slice-aggregate-output
     slice-aggregate-slots
     slice-aggregate-index
     slice-aggregate-lengths
     slice-aggregate-bytes
-    slice-aggregate-output
+    slice-aggregate-messages
+    slice-aggregate-entry
+    slice-aggregate-header
+    slice-aggregate-rooms
     new-requires
-    none-requires
-    none-requires-2
-    none-requires-3
+    fresh-requires
     loop-holds
     filled-requires
     field-requires
     after-requires
     answer-requires
+    answer-fragments-requires
+    ended-requires
     returns
     returns-2
     sub-turns
