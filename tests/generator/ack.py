@@ -5,7 +5,8 @@ from .choices import bits, number, short, start, way_to
 from .fields import field, item, stream, u16, u32, u8
 from .model import Acknowledgment
 
-MOST_PAYLOAD = 256
+# F of the end that `replay` makes: 256 packets of 16 fragments are then 262,144 bytes.
+MOST_PAYLOAD = 64
 
 
 def script(rng):
@@ -41,9 +42,10 @@ def step(rng, ack, busy):
 
 
 def outgoing(rng, ack):
+    """An item identifier exactly where there is an ordering, as a connection does it."""
     ordering = rng.randrange(3)
     id = rng.choice([None, 0, 255, rng.randrange(256)])
-    identifier = rng.choice([None, number(rng, 0)])
+    identifier = number(rng, 0) if ordering else None
     ack.outgoing(None)
     payload = short(rng, MOST_PAYLOAD)
     return field(0x22, u8(ordering), stream(id), item(identifier), payload)

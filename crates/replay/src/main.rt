@@ -3,6 +3,7 @@
 // Read `script` for the form of a field, then the module of the operations in question.
 //
 // A module of operations has a `step`, which does nothing where the tag is not its own: a field goes through them all.
+mod ack;
 mod buffer;
 mod fragments;
 mod ordered;
@@ -22,6 +23,7 @@ struct Run {
     ordered: ordered::State,
     sequenced: sequenced::State,
     fragments: fragments::State,
+    ack: ack::State,
 }
 
 // A proved loop has to end, and nothing says that the input does: it counts its turns down, from a number that no run
@@ -37,6 +39,10 @@ fn main() {
     let entry: &mut [u64] = &mut [0u64; 64];
     let header: &mut [u64] = &mut [0u64; 64];
     let rooms: &mut [u8] = &mut [0u8; 262144];
+    let received: &mut [u32] = &mut [0u32; 33];
+    let number: &mut [u32] = &mut [0u32; 256];
+    let records: &mut [u64] = &mut [0u64; 256];
+    let payloads: &mut [u8] = &mut [0u8; 262144];
     let mut window = Window::new();
     let mut run = fresh();
     let mut turns = u64::MAX;
@@ -46,6 +52,16 @@ fn main() {
         window = window.after(field);
         run = answer(run, field, input, slots, index, lengths, bytes, output);
         run = answer_fragments(run, field, input, messages, entry, header, rooms, output);
+        run = answer_ack(
+            run,
+            field,
+            input,
+            received,
+            number,
+            records,
+            payloads,
+            output,
+        );
         run = ended(run, field);
         if !run.on {
             return;
@@ -65,10 +81,11 @@ fn fresh() -> Run {
         ordered: ordered::none(),
         sequenced: sequenced::none(),
         fragments: fragments::none(),
+        ack: ack::none(),
     }
 }
 
-// Gives a field to the first modules; `answer_fragments` gives it to the next.
+// Gives a field to the first modules; `answer_fragments` and `answer_ack` give it to the next.
 fn answer(
     run: Run,
     field: Field,
@@ -94,6 +111,7 @@ fn answer(
     let ordered = ordered.state;
     let sequenced = sequenced.state;
     let fragments = run.fragments;
+    let ack = run.ack;
     Run {
         on: true,
         said,
@@ -101,6 +119,7 @@ fn answer(
         ordered,
         sequenced,
         fragments,
+        ack,
     }
 }
 
@@ -136,6 +155,7 @@ fn answer_fragments(
     let buffer = run.buffer;
     let ordered = run.ordered;
     let sequenced = run.sequenced;
+    let ack = run.ack;
     Run {
         on: true,
         said,
@@ -143,6 +163,51 @@ fn answer_fragments(
         ordered,
         sequenced,
         fragments,
+        ack,
+    }
+}
+
+fn answer_ack(
+    run: Run,
+    field: Field,
+    input: &[u8],
+    received: &mut [u32],
+    number: &mut [u32],
+    records: &mut [u64],
+    payloads: &mut [u8],
+    output: &mut [u8],
+) -> Run {
+    let Field::Whole(tag, start, end) = field else {
+        return run;
+    };
+    let body = script::part(input, start, end);
+    let said = run.said;
+    let before = run.ack;
+    let done = ack::step(
+        before,
+        received,
+        number,
+        records,
+        payloads,
+        output,
+        tag,
+        body,
+        said,
+    );
+    let said = done.said;
+    let ack = done.state;
+    let buffer = run.buffer;
+    let ordered = run.ordered;
+    let sequenced = run.sequenced;
+    let fragments = run.fragments;
+    Run {
+        on: true,
+        said,
+        buffer,
+        ordered,
+        sequenced,
+        fragments,
+        ack,
     }
 }
 

@@ -4,11 +4,11 @@ use Rattle.replay.proofs.main.Statement.{statement}
 use Rattle.replay.proofs.main.Tie as tie
 
 abbrev Inv-loop : tie.InvT-loop
-Inv-loop input₀ output₀ slots₀ index₀ lengths₀ bytes₀ messages₀ entry₀ header₀ rooms₀ window₀ run₀ turns₀ input output slots index lengths bytes messages entry header rooms window run turns =
+Inv-loop input₀ output₀ slots₀ index₀ lengths₀ bytes₀ messages₀ entry₀ header₀ rooms₀ received₀ number₀ records₀ payloads₀ window₀ run₀ turns₀ input output slots index lengths bytes messages entry header rooms received number records payloads window run turns =
     Unit {0}
 
 abbrev μ-loop : tie.MeasureT-loop
-μ-loop input₀ output₀ slots₀ index₀ lengths₀ bytes₀ messages₀ entry₀ header₀ rooms₀ window₀ run₀ turns₀ input output slots index lengths bytes messages entry header rooms window run turns =
+μ-loop input₀ output₀ slots₀ index₀ lengths₀ bytes₀ messages₀ entry₀ header₀ rooms₀ received₀ number₀ records₀ payloads₀ window₀ run₀ turns₀ input output slots index lengths bytes messages entry header rooms received number records payloads window run turns =
     turns
 
 slice-aggregate-input : tie.Need-slice-aggregate-input Inv-loop μ-loop
@@ -41,6 +41,18 @@ slice-aggregate-header c = search needs
 slice-aggregate-rooms : tie.Need-slice-aggregate-rooms Inv-loop μ-loop
 slice-aggregate-rooms c = search needs
 
+slice-aggregate-received : tie.Need-slice-aggregate-received Inv-loop μ-loop
+slice-aggregate-received c = search needs
+
+slice-aggregate-number : tie.Need-slice-aggregate-number Inv-loop μ-loop
+slice-aggregate-number c = search needs
+
+slice-aggregate-records : tie.Need-slice-aggregate-records Inv-loop μ-loop
+slice-aggregate-records c = search needs
+
+slice-aggregate-payloads : tie.Need-slice-aggregate-payloads Inv-loop μ-loop
+slice-aggregate-payloads c = search needs
+
 new-requires : tie.Need-new-requires Inv-loop μ-loop
 new-requires c κs = search needs
 
@@ -64,6 +76,9 @@ answer-requires c κs = search needs
 
 answer-fragments-requires : tie.Need-answer-fragments-requires Inv-loop μ-loop
 answer-fragments-requires c κs = search needs
+
+answer-ack-requires : tie.Need-answer-ack-requires Inv-loop μ-loop
+answer-ack-requires c κs = search needs
 
 ended-requires : tie.Need-ended-requires Inv-loop μ-loop
 ended-requires c κs = search needs
@@ -99,6 +114,10 @@ main-spec =
     slice-aggregate-entry
     slice-aggregate-header
     slice-aggregate-rooms
+    slice-aggregate-received
+    slice-aggregate-number
+    slice-aggregate-records
+    slice-aggregate-payloads
     new-requires
     fresh-requires
     loop-holds
@@ -107,6 +126,7 @@ main-spec =
     after-requires
     answer-requires
     answer-fragments-requires
+    answer-ack-requires
     ended-requires
     returns
     returns-2
