@@ -18,7 +18,7 @@ KEPT = ROOT / "target/compare"
 DIFFERENCES = ROOT / "tests/differences"
 MARKED_CASES = ROOT / "tests/marked-cases.hex"
 # The parts that the program replay answers for so far; the others wait for its operations.
-ANSWERED = ["buffer", "ack", "fragments", "ordering", "sequencing"]
+ANSWERED = ["marked-cases", "buffer", "ack", "fragments", "ordering", "sequencing"]
 
 
 def port():
