@@ -17,7 +17,7 @@ use Rattle.ordering.specs.Arrange.{planOf, handedOut}
 use Rattle.ordering.specs.declared.Arranged.{Arranged}
 use Rattle.ordering.specs.declared.Arranged.the-variants.{Out, Held, Old, Refused}
 use Rattle.ordering.specs.declared.Taken.the-variants.{Refused as NotTaken}
-use Rattle.ordering.specs.declared.gate.Gate.the-variants.{Open, Shut}
+use Rattle.terms.specs.declared.Gate.the-variants.{Open, Shut}
 use Rattle.ordering.proofs.Gates.{size-high}
 use Rattle.arranging.specs.Ids.{placeOf}
 use Rattle.arranging.specs.Ordered.{part, States, RoomForAll, streamAt, planOn, nextOn, soundAll}

@@ -11,13 +11,13 @@ use Rattle.terms.specs.declared.Refusal.the-variants.{BadSizes, BadStorage, Too
 use Rattle.ordering.specs.State.{written}
 use Rattle.ordering.specs.Arrange.{handedOut, arranged}
 use Rattle.ordering.specs.Take.{takenOut}
-use Rattle.ordering.specs.Gate.{through}
+use Rattle.terms.specs.Gates.{through}
 use Rattle.ordering.specs.declared.Arranged.{Arranged}
 use Rattle.ordering.specs.declared.Arranged.the-variants.{Out, Held, Old, Refused}
 use Rattle.ordering.specs.declared.Taken.{Taken}
 use Rattle.ordering.specs.declared.Taken.the-variants.{Refused as NotTaken}
-use Rattle.ordering.specs.declared.gate.Gate.{Gate}
-use Rattle.ordering.specs.declared.gate.Gate.the-variants.{Open, Shut}
+use Rattle.terms.specs.declared.Gate.{Gate}
+use Rattle.terms.specs.declared.Gate.the-variants.{Open, Shut}
 use Rattle.arranging.specs.Ids.{placeOf}
 use Rattle.arranging.specs.Ordered.{States, LeavesAll, stateAt, storedAt, planOn, nextOn, takenOn, soundAll}
 use Rattle.arranging.specs.declared.ordered.AfterTake.{AfterTake}

@@ -12,9 +12,9 @@ use crate::sequenced;
 use crate::sequenced::SequencingStreams;
 use ordering::Arranged;
 use ordering::Taken;
-use ordering::gate::Gate;
 use sequencing::Sequenced;
 use serial::ItemId;
+use terms::Gate;
 use terms::Refusal;
 use terms::Sizes;
 

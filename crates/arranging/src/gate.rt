@@ -4,7 +4,7 @@ ghost use Rattle.arranging.specs.Ordered.{lendingAll};
 ghost use Rattle.arranging.specs.Calls.{gateOf, isRefused};
 use crate::ordered::OrderingStreams;
 use ordering::Arranged;
-use ordering::gate::Gate;
+use terms::Gate;
 use terms::Refusal;
 use terms::Sizes;
 

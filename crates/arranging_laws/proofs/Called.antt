@@ -12,8 +12,8 @@ use Rattle.laws.proofs.Cases.{case, lt-or-le}
 use Rattle.terms.specs.Sizes.{inRange}
 use Rattle.terms.specs.declared.Sizes.{Sizes}
 use Rattle.serial.specs.declared.ItemId.{ItemId}
-use Rattle.ordering.specs.declared.gate.Gate.{Gate}
-use Rattle.ordering.specs.declared.gate.Gate.the-variants.{Open, Shut}
+use Rattle.terms.specs.declared.Gate.{Gate}
+use Rattle.terms.specs.declared.Gate.the-variants.{Open, Shut}
 use Rattle.arranging.specs.Ids.{placeOf}
 use Rattle.arranging.specs.Ordered.{States, planOn, takenOn}
 use Rattle.arranging.specs.Calls.{gateOf, isRefused, arrangeOf, arrangedOn, takeOf}

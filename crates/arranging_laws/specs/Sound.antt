@@ -8,7 +8,7 @@ use Rattle.terms.specs.Sizes.{inRange}
 use Rattle.terms.specs.declared.Sizes.{Sizes}
 use Rattle.serial.specs.declared.ItemId.{ItemId}
 use Rattle.ordering.specs.Arrange.{planOf, arranged}
-use Rattle.ordering.specs.declared.gate.Gate.the-variants.{Open}
+use Rattle.terms.specs.declared.Gate.the-variants.{Open}
 use Rattle.arranging.specs.Ids.{placeOf, soundIds}
 use Rattle.arranging.specs.Ordered.{part, States, lendingAll, noStreams, streamAt, stateAt, storedAt, nextOn, takenOn, numberedAt, soundAll}
 use Rattle.arranging.specs.Calls.{gateOf, arrangeOf, arrangedOn, takeOf}

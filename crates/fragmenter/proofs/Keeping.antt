@@ -29,8 +29,8 @@ use Rattle.reassembly.specs.declared.plan.Fragment.{Fragment}
 use Rattle.reassembly.specs.declared.plan.Joining.{Joining}
 use Rattle.reassembly.specs.declared.plan.Plan.{Plan}
 use Rattle.reassembly.specs.declared.plan.Plan.the-variants.{Refuse, Make, Join}
-use Rattle.reassembly.specs.declared.gate.Gate.{Gate}
-use Rattle.reassembly.specs.declared.gate.Gate.the-variants.{Open, Shut}
+use Rattle.terms.specs.declared.Gate.{Gate}
+use Rattle.terms.specs.declared.Gate.the-variants.{Open, Shut}
 use Rattle.reassembly.proofs.Below.{all-of}
 use Rattle.reassembly.proofs.Sound.{entry-holds, opened-sound, grown-sound, found-sound, below-most, at-most}
 use Rattle.reassembly.proofs.Planned.{plan-joins}

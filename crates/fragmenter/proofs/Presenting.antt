@@ -32,7 +32,7 @@ use Rattle.reassembly.specs.declared.words.AckHeader.{AckHeader}
 use Rattle.reassembly.specs.declared.plan.Joining.{Joining}
 use Rattle.reassembly.specs.declared.plan.Plan.the-variants.{Join}
 use Rattle.reassembly.specs.declared.effects.Answer.the-variants.{Waiting, Whole}
-use Rattle.reassembly.specs.declared.gate.Gate.the-variants.{Open}
+use Rattle.terms.specs.declared.Gate.the-variants.{Open}
 use Rattle.fragmenter.specs.Present.{part, countOf, pieceOf, presented, Ready, GivesBack}
 use Rattle.fragmenter.proofs.Packed.{entry-again, header-again}
 use Rattle.fragmenter.proofs.Keeping.{Kept, Keeps, made-slots, kept-call, kept-fresh, kept-sound}

@@ -9,7 +9,7 @@ use Rattle.sequence_buffer.specs.Buffer.{fresh}
 use Rattle.reassembly.specs.Effects.{State}
 use Rattle.reassembly.specs.Gate.{gateOf, handled}
 use Rattle.reassembly.specs.declared.plan.Fragment.{Fragment}
-use Rattle.reassembly.specs.declared.gate.Gate.the-variants.{Shut}
+use Rattle.terms.specs.declared.Gate.the-variants.{Shut}
 
 -- a call of `handle_fragment`, with whatever output it is lent
 pub record Call : Type 0 where

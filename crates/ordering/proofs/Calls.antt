@@ -13,7 +13,7 @@ use Rattle.ordering.specs.Take.{nextOf}
 use Rattle.ordering.specs.Gate.{gateOf, arrangeOf, takeOf}
 use Rattle.ordering.specs.declared.Arranged.the-variants.{Refused}
 use Rattle.ordering.specs.declared.Taken.the-variants.{Refused as NotTaken}
-use Rattle.ordering.specs.declared.gate.Gate.the-variants.{Open, Shut}
+use Rattle.terms.specs.declared.Gate.the-variants.{Open, Shut}
 
 module _ (z : Sizes) (s : State) (output : List ℕ) where
   pub arrange-shut : (why : Refusal) (i : ℕ) (p : List ℕ) → gateOf z s output ≡ Shut why → arrangeOf z s i p output ≡ Refused why

@@ -20,8 +20,8 @@ use Rattle.ordering.specs.State.{State}
 use Rattle.ordering.specs.Gate.{tooShort, allFit, sound, gateOf}
 use Rattle.ordering.specs.Room.{Room}
 use Rattle.ordering.specs.declared.OrderingStream.{OrderingStream}
-use Rattle.ordering.specs.declared.gate.Gate.{Gate}
-use Rattle.ordering.specs.declared.gate.Gate.the-variants.{Open, Shut}
+use Rattle.terms.specs.declared.Gate.{Gate}
+use Rattle.terms.specs.declared.Gate.the-variants.{Open, Shut}
 use Rattle.ordering.proofs.Fits.{fits-at}
 
 -- a test of two parts that passes passes both

@@ -6,6 +6,7 @@ use mathlib.Core.Path.{_≡_}
 use lib.Dec.{ltb, leb}
 use lib.ListN.{length, take}
 use Rattle.keys.specs.Keys.{twice}
+use Rattle.terms.specs.Gates.{through}
 use Rattle.terms.specs.Sizes.{inRange}
 use Rattle.terms.specs.declared.Sizes.{Sizes}
 use Rattle.terms.specs.declared.Refusal.{Refusal}
@@ -18,8 +19,8 @@ use Rattle.ordering.specs.declared.Arranged.{Arranged}
 use Rattle.ordering.specs.declared.Arranged.the-variants.{Refused}
 use Rattle.ordering.specs.declared.Taken.{Taken}
 use Rattle.ordering.specs.declared.Taken.the-variants.{Refused as NotTaken}
-use Rattle.ordering.specs.declared.gate.Gate.{Gate}
-use Rattle.ordering.specs.declared.gate.Gate.the-variants.{Open, Shut}
+use Rattle.terms.specs.declared.Gate.{Gate}
+use Rattle.terms.specs.declared.Gate.the-variants.{Open, Shut}
 use Rattle.ordering.specs.declared.AfterArrange.{AfterArrange}
 use Rattle.ordering.specs.declared.AfterTake.{AfterTake}
 
@@ -45,10 +46,6 @@ gateOf z s output =
     (cond (tooShort (z .«fragment_size») s output) (Shut BadStorage)
     (cond (not (sound (z .«fragment_size») (s .stream) (s .index) (s .lengths))) (Shut BadState)
     Open))
-
-abbrev pub through : {A : Type 0} → Gate → (Refusal → A) → A → A
-through (Shut why) refused answer = refused why
-through Open refused answer = answer
 
 -- an item comes: "1, 2, 13; then .. 5, .. 6"
 unfoldable pub arrangeOf : Sizes → State → ℕ → List ℕ → List ℕ → Arranged

@@ -5,13 +5,9 @@ ghost use lib.ListN.{length};
 ghost use Rattle.ordering.specs.State.{lending};
 ghost use Rattle.ordering.specs.Gate.{allFit, sound as soundness, gateOf};
 use crate::OrderingStream;
+use terms::Gate;
 use terms::Refusal;
 use terms::Sizes;
-
-pub enum Gate {
-    Open,
-    Shut(Refusal),
-}
 
 pub fn check(
     sizes: Sizes,

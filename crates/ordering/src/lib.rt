@@ -4,8 +4,8 @@
 ghost use mathlib.Core.Path.{_≡_};
 ghost use Rattle.ordering.specs.State.{lending, fresh, numbered};
 ghost use Rattle.ordering.specs.Gate.{Arranges, Takes};
-use gate::Gate;
 use serial::ItemId;
+use terms::Gate;
 use terms::Refusal;
 use terms::Sizes;
 

@@ -19,7 +19,7 @@ use Rattle.ordering.specs.State.{State, lending, fresh, written, placeOf}
 use Rattle.ordering.specs.Arrange.{planOf, handedOut, arranged}
 use Rattle.ordering.specs.Take.{nextPlace, nextOf, takenOut, taken}
 use Rattle.ordering.specs.Gate.{gateOf, arrangeOf, takeOf}
-use Rattle.ordering.specs.declared.gate.Gate.the-variants.{Open}
+use Rattle.terms.specs.declared.Gate.the-variants.{Open}
 use Rattle.ordering.specs.declared.Arranged.the-variants.{Out, Held, Old, Refused}
 use Rattle.ordering.specs.declared.Taken.{Taken}
 use Rattle.ordering.specs.declared.Taken.the-variants.{Item, Nothing, Refused as NotTaken}

@@ -25,7 +25,7 @@ use Rattle.ordering.specs.declared.Arranged.{Arranged}
 use Rattle.ordering.specs.declared.Arranged.the-variants.{Out, Held, Old, Refused}
 use Rattle.ordering.specs.declared.Taken.{Taken}
 use Rattle.ordering.specs.declared.Taken.the-variants.{Item, Nothing, Refused as NotTaken}
-use Rattle.ordering.specs.declared.gate.Gate.the-variants.{Open}
+use Rattle.terms.specs.declared.Gate.the-variants.{Open}
 use Rattle.ordering.proofs.Fits.{at-fits}
 use Rattle.ordering.proofs.Gates.{opened, size-high, sound-once, long-enough, gate-open}
 use Rattle.ordering.proofs.Planned.{held-place}

@@ -10,7 +10,7 @@ use Rattle.ordering.specs.State.{State, lending, fresh, written}
 use Rattle.ordering.specs.Arrange.{handedOut}
 use Rattle.ordering.specs.Take.{takenOut}
 use Rattle.ordering.specs.Gate.{gateOf, arrangeOf, takeOf}
-use Rattle.ordering.specs.declared.gate.Gate.the-variants.{Open}
+use Rattle.terms.specs.declared.Gate.the-variants.{Open}
 use Rattle.ordering.specs.declared.Taken.{Taken}
 use Rattle.ordering.specs.declared.Taken.the-variants.{Item, Nothing, Refused}
 use Rattle.ordering_laws.specs.Held.{heldAt, Good}

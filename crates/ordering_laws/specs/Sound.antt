@@ -10,7 +10,7 @@ use Rattle.ordering.specs.State.{State, lending, fresh, written, numbered}
 use Rattle.ordering.specs.Arrange.{handedOut, arranged}
 use Rattle.ordering.specs.Take.{takenOut, taken}
 use Rattle.ordering.specs.Gate.{gateOf, arrangeOf, takeOf}
-use Rattle.ordering.specs.declared.gate.Gate.the-variants.{Open}
+use Rattle.terms.specs.declared.Gate.the-variants.{Open}
 
 -- after a call: the state that it leaves, and the output
 abbrev pub afterArrange : Sizes → State → ℕ → List ℕ → List ℕ → State

@@ -21,7 +21,7 @@ use Rattle.reassembly.specs.declared.plan.Plan.{Plan}
 use Rattle.reassembly.specs.declared.plan.Plan.the-variants.{Refuse}
 use Rattle.reassembly.specs.declared.effects.Answer.the-variants.{Refused}
 use Rattle.reassembly.specs.declared.effects.Handled.{Handled}
-use Rattle.reassembly.specs.declared.gate.Gate.the-variants.{Open, Shut}
+use Rattle.terms.specs.declared.Gate.the-variants.{Open, Shut}
 
 pub record Long (f c : ℕ) (slots entry header bytes output : List ℕ) : Type 0 where
   pub slots-c : c ≤ length slots

@@ -19,8 +19,8 @@ use Rattle.reassembly.specs.declared.plan.Plan.{Plan}
 use Rattle.reassembly.specs.declared.plan.Plan.the-variants.{Refuse}
 use Rattle.reassembly.specs.declared.effects.Answer.{Answer}
 use Rattle.reassembly.specs.declared.effects.Handled.{Handled}
-use Rattle.reassembly.specs.declared.gate.Gate.{Gate}
-use Rattle.reassembly.specs.declared.gate.Gate.the-variants.{Open, Shut}
+use Rattle.terms.specs.declared.Gate.{Gate}
+use Rattle.terms.specs.declared.Gate.the-variants.{Open, Shut}
 
 -- how many of the numbers below n have p
 unfoldable pub countBelow : (ℕ → Bool) → ℕ → ℕ

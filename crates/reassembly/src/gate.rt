@@ -7,13 +7,9 @@ ghost use lib.ListN.{length};
 ghost use Rattle.reassembly.specs.Words.{entryOf};
 ghost use Rattle.reassembly.specs.Gate.{entrySound, sound as soundness, tooShort, gateOf};
 use crate::words::Entry;
+use terms::Gate;
 use terms::Refusal;
 use terms::Sizes;
-
-pub enum Gate {
-    Open,
-    Shut(Refusal),
-}
 
 pub fn check(
     sizes: Sizes,

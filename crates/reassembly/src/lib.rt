@@ -6,9 +6,9 @@ ghost use Rattle.reassembly.specs.Room.{lending};
 ghost use Rattle.reassembly.specs.Gate.{Handles};
 use effects::Answer;
 use effects::Handled;
-use gate::Gate;
 use plan::Fragment;
 use serial::PacketNumber;
+use terms::Gate;
 use terms::Refusal;
 use terms::Sizes;
 

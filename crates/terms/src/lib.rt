@@ -42,6 +42,12 @@ pub fn number(refusal: Refusal) -> u8
     }
 }
 
+// What a call of a user finds where it tries 1, 2 and 13 first.
+pub enum Gate {
+    Open,
+    Shut(Refusal),
+}
+
 // Document 01, "Sizes of a link". Any numbers may be given: those out of range are refused.
 pub struct Sizes {
     // F, the bytes of a fragment.

@@ -6,7 +6,7 @@ use Prim.Native.Nat.{ℕ, _-_, _*_}
 use native.Mathlib.Omega.{arith}
 use denote.Ref.{now}
 use Rattle.ordering.specs.State.{State, lending}
-use Rattle.ordering.specs.declared.gate.Gate.the-variants.{Open, Shut}
+use Rattle.terms.specs.declared.Gate.the-variants.{Open, Shut}
 use Rattle.ordering.proofs.Gates.{Opened, opened}
 use Rattle.ordering.proofs.Calls.{take-shut, take-open}
 

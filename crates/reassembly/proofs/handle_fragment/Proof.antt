@@ -13,8 +13,8 @@ use Rattle.reassembly.specs.Gate.{stated, gateOf, decided}
 use Rattle.reassembly.specs.Room.{lending, Room}
 use Rattle.reassembly.specs.declared.plan.Plan.{Plan}
 use Rattle.reassembly.specs.declared.plan.Plan.the-variants.{Refuse}
-use Rattle.reassembly.specs.declared.gate.Gate.{Gate}
-use Rattle.reassembly.specs.declared.gate.Gate.the-variants.{Open}
+use Rattle.terms.specs.declared.Gate.{Gate}
+use Rattle.terms.specs.declared.Gate.the-variants.{Open}
 use Rattle.reassembly.proofs.Passing.{Opens, gate-opens, open-room, kept, done}
 
 -- what is lent, and what the gate and the whole call decide of it

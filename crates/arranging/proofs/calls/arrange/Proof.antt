@@ -6,7 +6,7 @@ use mathlib.Core.Bool.{true, false}
 use lib.ListN.{length}
 use native.Mathlib.Omega.{arith}
 use denote.Ref.{now}
-use Rattle.ordering.specs.declared.gate.Gate.the-variants.{Open, Shut}
+use Rattle.terms.specs.declared.Gate.the-variants.{Open, Shut}
 use Rattle.arranging.specs.Ids.{placeOf}
 use Rattle.arranging.specs.Ordered.{States, lendingAll}
 use Rattle.arranging.specs.declared.ordered.Planned.{Planned}

@@ -5,7 +5,7 @@ use mathlib.Core.Path.{_≡_, refl, sym, _∙_}
 use native.Mathlib.Omega.{arith}
 use denote.Ref.{now}
 use Rattle.arranging.specs.Ordered.{States, lendingAll}
-use Rattle.ordering.specs.declared.gate.Gate.the-variants.{Open, Shut}
+use Rattle.terms.specs.declared.Gate.the-variants.{Open, Shut}
 use Rattle.arranging.proofs.Gates.{opened, take-shut, take-open}
 
 abbrev whole : tie.Start → States
