@@ -2,7 +2,7 @@
 use Prim.Native.Nat.{ℕ, _+_, _*_, _≤_, _<_}
 use mathlib.Core.Path.{_≡_, refl, sym, ap, _∙_}
 use mathlib.Core.List.{List}
-use mathlib.Core.Bool.{true, false, or-true}
+use mathlib.Core.Bool.{true, false}
 use mathlib.Core.Option.{none}
 use native.Mathlib.Omega.{arith}
 use lib.Dec.{ltb, eqb}
@@ -26,26 +26,29 @@ use Rattle.arranging.specs.declared.ordered.Planned.{Planned}
 use Rattle.arranging.proofs.Parts.{plan-none, plan-on}
 use Rattle.arranging.proofs.Sound.{room-for-all}
 
-module _ (f : ℕ) (s : States) (o : List ℕ) where
-  pub short-index : length (s .index) < 256 → tooShort f s o ≡ true
-  unfolding tooShort
-  short-index h = rw (lt-ltb (length (s .index)) 256 h)
+pub record Long (f : ℕ) (index lengths bytes o : List ℕ) : Type 0 where
+  pub index-room : 256 ≤ length index
+  pub lengths-room : 256 ≤ length lengths
+  pub bytes-room : 256 * f ≤ length bytes
+  pub output-room : 16 * f + 17 ≤ length o
 
-  pub short-lengths : length (s .lengths) < 256 → tooShort f s o ≡ true
+module _ (f : ℕ) (index lengths bytes o : List ℕ) where
+  pub long-enough : 256 ≤ length index → 256 ≤ length lengths → 256 * f ≤ length bytes → 16 * f + 17 ≤ length o → tooShort f index lengths bytes o ≡ false
   unfolding tooShort
-  short-lengths h = rw (lt-ltb (length (s .lengths)) 256 h, or-true)
+  long-enough a b g h = rw (le-ltb (length index) 256 a, le-ltb (length lengths) 256 b, le-ltb (length bytes) (256 * f) g, le-ltb (length o) (16 * f + 17) h)
 
-  pub short-bytes : length (s .bytes) < 256 * f → tooShort f s o ≡ true
+  pub long-means : tooShort f index lengths bytes o ≡ false → Long f index lengths bytes o
   unfolding tooShort
-  short-bytes h = rw (lt-ltb (length (s .bytes)) (256 * f) h, or-true, or-true)
-
-  pub short-output : length o < 16 * f + 17 → tooShort f s o ≡ true
-  unfolding tooShort
-  short-output h = rw (lt-ltb (length o) (16 * f + 17) h, or-true, or-true, or-true)
-
-  pub long-enough : 256 ≤ length (s .index) → 256 ≤ length (s .lengths) → 256 * f ≤ length (s .bytes) → 16 * f + 17 ≤ length o → tooShort f s o ≡ false
-  unfolding tooShort
-  long-enough a b g h = rw (le-ltb (length (s .index)) 256 a, le-ltb (length (s .lengths)) 256 b, le-ltb (length (s .bytes)) (256 * f) g, le-ltb (length o) (16 * f + 17) h)
+  long-means e =
+      let i = neither (ltb (length index) 256) _ e in
+      let l = neither (ltb (length lengths) 256) _ (i .1) in
+      let q = neither (ltb (length bytes) (256 * f)) _ (l .1) in
+      record {
+        index-room = ltb-false (length index) 256 (i .0);
+        lengths-room = ltb-false (length lengths) 256 (l .0);
+        bytes-room = ltb-false (length bytes) (256 * f) (q .0);
+        output-room = ltb-false (length o) (16 * f + 17) (q .1);
+      }
 
 module _ (z : Sizes) (s : States) (o : List ℕ) where
   abbrev F : ℕ
@@ -55,15 +58,15 @@ module _ (z : Sizes) (s : States) (o : List ℕ) where
   unfolding gateOf
   gate-sizes e = rw e
 
-  pub gate-storage : inRange z ≡ true → tooShort F s o ≡ true → gateOf z s o ≡ Shut BadStorage
+  pub gate-storage : inRange z ≡ true → tooShort F (s .index) (s .lengths) (s .bytes) o ≡ true → gateOf z s o ≡ Shut BadStorage
   unfolding gateOf
   gate-storage e g = rw (e, g)
 
-  pub gate-state : inRange z ≡ true → tooShort F s o ≡ false → soundAll F (s .counters) (s .index) (s .lengths) ≡ false → gateOf z s o ≡ Shut BadState
+  pub gate-state : inRange z ≡ true → tooShort F (s .index) (s .lengths) (s .bytes) o ≡ false → soundAll F (s .counters) (s .index) (s .lengths) ≡ false → gateOf z s o ≡ Shut BadState
   unfolding gateOf
   gate-state e g h = rw (e, g, h)
 
-  pub gate-open : inRange z ≡ true → tooShort F s o ≡ false → soundAll F (s .counters) (s .index) (s .lengths) ≡ true → gateOf z s o ≡ Open
+  pub gate-open : inRange z ≡ true → tooShort F (s .index) (s .lengths) (s .bytes) o ≡ false → soundAll F (s .counters) (s .index) (s .lengths) ≡ true → gateOf z s o ≡ Open
   unfolding gateOf
   gate-open e g h = rw (e, g, h)
 
@@ -74,30 +77,22 @@ pub record Opened (z : Sizes) (s : States) (o : List ℕ) : Type 0 where
 shut-open : (why : Refusal) → Shut why ≡ Open → ⊥
 shut-open why e = let z : _≡_ {A = ℕ} 0 1 = cc in omega arith
 
-long : (z : Sizes) (s : States) (o : List ℕ) → inRange z ≡ true → tooShort (z .«fragment_size») s o ≡ false
-    → soundAll (z .«fragment_size») (s .counters) (s .index) (s .lengths) ≡ true → Opened z s o
-unfolding tooShort
-long z s o a b g =
-    let f = z .«fragment_size» in
-    let i = neither (ltb (length (s .index)) 256) _ b in
-    let l = neither (ltb (length (s .lengths)) 256) _ (i .1) in
-    let q = neither (ltb (length (s .bytes)) (256 * f)) _ (l .1) in
-    let enough = ltb-false (length (s .bytes)) (256 * f) (q .0) in
-    record {
-      room =
-          room-for-all f s (size-high z a) (ltb-false (length (s .index)) 256 (i .0)) (ltb-false (length (s .lengths)) 256 (l .0)) (omega arith) g;
-      output = ltb-false (length o) (16 * f + 17) (q .1);
-    }
+-- storage that is long enough, with sound streams in it
+pub long-room : (f : ℕ) (s : States) (o : List ℕ) → f ≤ 1024 → Long f (s .index) (s .lengths) (s .bytes) o
+    → soundAll f (s .counters) (s .index) (s .lengths) ≡ true → RoomForAll f s
+long-room f s o small l e = let enough = l .bytes-room in room-for-all f s small (l .index-room) (l .lengths-room) (omega arith) e
 
 pub opened : (z : Sizes) (s : States) (o : List ℕ) → gateOf z s o ≡ Open → Opened z s o
 opened z s o e =
     case (inRange z)
     (λ a.
-    case (tooShort (z .«fragment_size») s o)
+    case (tooShort (z .«fragment_size») (s .index) (s .lengths) (s .bytes) o)
     (λ b. absurd (shut-open BadStorage (sym (gate-storage z s o a b) ∙ e)))
     (λ b.
     case (soundAll (z .«fragment_size») (s .counters) (s .index) (s .lengths))
-    (λ g. long z s o a b g)
+    (λ g.
+    let l = long-means (z .«fragment_size») (s .index) (s .lengths) (s .bytes) o b in
+    record { room = long-room (z .«fragment_size») s o (size-high z a) l g; output = l .output-room })
     (λ g. absurd (shut-open BadState (sym (gate-state z s o a b g) ∙ e)))))
     (λ a. absurd (shut-open BadSizes (sym (gate-sizes z s o a) ∙ e)))
 

@@ -24,14 +24,14 @@ use Rattle.arranging.specs.declared.ordered.AfterTake.{AfterTake}
 use Rattle.arranging.specs.declared.calls.AfterArrange.{AfterArrange}
 
 -- 2: a table of 4 x 64 places, the bytes of 4 x 64 items or "an output buffer of 16 x F + 17" is too short
-unfoldable pub tooShort : ℕ → States → List ℕ → Bool
-tooShort f s output =
-    ltb (length (s .index)) 256 || (ltb (length (s .lengths)) 256 || (ltb (length (s .bytes)) (256 * f) || ltb (length output) (16 * f + 17)))
+unfoldable pub tooShort : ℕ → List ℕ → List ℕ → List ℕ → List ℕ → Bool
+tooShort f index lengths bytes output =
+    ltb (length index) 256 || (ltb (length lengths) 256 || (ltb (length bytes) (256 * f) || ltb (length output) (16 * f + 17)))
 
 unfoldable pub gateOf : Sizes → States → List ℕ → Gate
 gateOf z s output =
     cond (not (inRange z)) (Shut BadSizes)
-    (cond (tooShort (z .«fragment_size») s output) (Shut BadStorage)
+    (cond (tooShort (z .«fragment_size») (s .index) (s .lengths) (s .bytes) output) (Shut BadStorage)
     (cond (not (soundAll (z .«fragment_size») (s .counters) (s .index) (s .lengths))) (Shut BadState)
     Open))
 

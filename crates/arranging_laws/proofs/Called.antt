@@ -30,7 +30,7 @@ pub opens : (z : Sizes) (s : States) (out : List ℕ) → inRange z ≡ true →
     → gateOf z s out ≡ Open
 opens z s out r w h =
     let b = w .bytes in
-    gate-open z s out r (long-enough (z .«fragment_size») s out (w .indices) (w .lengths) (omega arith) h) (w .state)
+    gate-open z s out r (long-enough (z .«fragment_size») (s .index) (s .lengths) (s .bytes) out (w .indices) (w .lengths) (omega arith) h) (w .state)
 
 module _ (z : Sizes) (s : States) (id : ℕ) (out : List ℕ) (w : Whole (z .«fragment_size») s) where
   abbrev F : ℕ

@@ -2,81 +2,44 @@ use borrow.Author.Needs.{needs}
 use Rattle.arranging.proofs.gate.check.Statement.{statement}
 use Rattle.arranging.proofs.gate.check.Tie as tie
 use mathlib.Core.Path.{_≡_, sym, _∙_}
-use mathlib.Core.Bool.{true, false}
+use mathlib.Core.Bool.{true}
 use denote.Ref.{now}
 use Rattle.laws.proofs.Cases.{on, off}
 use Rattle.terms.specs.Sizes.{inRange}
-use Rattle.arranging.specs.Ordered.{States, lendingAll}
-use Rattle.arranging.specs.Calls.{tooShort}
 use Rattle.ordering.proofs.Gates.{size-high}
-use Rattle.arranging.proofs.Gates.{short-index, short-lengths, short-bytes, short-output, long-enough, gate-sizes, gate-storage, gate-state, gate-open}
-
-abbrev whole : tie.Start → States
-whole c = lendingAll (c .args .streams) (now (c .args .index)) (now (c .args .lengths)) (now (c .args .bytes))
+use Rattle.arranging.specs.Calls.{gateOf}
+use Rattle.arranging.proofs.Gates.{Long, long-means}
 
 sized : (c : tie.Else1) → inRange (c .before .before .before .before .before .before .args .sizes) ≡ true
 sized c = sym (c .before .in-range .ensures) ∙ on (c .before .in-range .result) (c .if1 .left)
 
-stored : (c : tie.Else5) → tooShort (c .before .before .before .before .before .before .before .before .before .before .args .sizes .«fragment_size») (whole (c .before .before .before .before .before .before .before .before .before .before)) (now (c .before .before .before .before .before .before .before .before .before .before .args .output)) ≡ false
-stored c = long-enough (c .before .before .before .before .before .before .before .before .before .before .args .sizes .«fragment_size») (whole (c .before .before .before .before .before .before .before .before .before .before)) (now (c .before .before .before .before .before .before .before .before .before .before .args .output)) (c .before .before .before .if2 .left) (c .before .before .if3 .left) (c .before .if4 .left) (c .if5 .left)
+longs : (c : tie.Else2) → Long (c .before .before .before .before .before .before .before .before .args .sizes .«fragment_size») (now (c .before .before .before .before .before .before .before .before .args .index)) (now (c .before .before .before .before .before .before .before .before .args .lengths)) (now (c .before .before .before .before .before .before .before .before .args .bytes)) (now (c .before .before .before .before .before .before .before .before .args .output))
+longs c = long-means _ (now (c .before .before .before .before .before .before .before .before .args .index)) (now (c .before .before .before .before .before .before .before .before .args .lengths)) (now (c .before .before .before .before .before .before .before .before .args .bytes)) (now (c .before .before .before .before .before .before .before .before .args .output)) (sym (c .before .too-short .ensures) ∙ c .if2 .left)
 
 in-range-requires : tie.Need-in-range-requires
 in-range-requires c κs = search needs
 
 returns : tie.Need-returns
-returns c =
-    let s = c .before .before .before .before .before .before in
-    sym (gate-sizes (s .args .sizes) (whole s) (now (s .args .output)) (sym (c .before .in-range .ensures) ∙ off (c .before .in-range .result) (c .if1 .taken)))
+unfolding gateOf
+returns c = rw (← c .before .in-range .ensures, off (c .before .in-range .result) (c .if1 .taken))
+
+too-short-requires : tie.Need-too-short-requires
+too-short-requires c κs = size-high (c .before .before .before .before .before .before .args .sizes) (sized c)
 
 returns-2 : tie.Need-returns-2
-returns-2 c =
-    let s = c .before .before .before .before .before .before .before in
-    let o = now (s .args .output) in
-    sym (gate-storage (s .args .sizes) (whole s) o (sized (c .before)) (short-index (s .args .sizes .«fragment_size») (whole s) o (c .if2 .taken)))
-
-returns-3 : tie.Need-returns-3
-returns-3 c =
-    let s = c .before .before .before .before .before .before .before .before in
-    let o = now (s .args .output) in
-    sym (gate-storage (s .args .sizes) (whole s) o (sized (c .before .before)) (short-lengths (s .args .sizes .«fragment_size») (whole s) o (c .if3 .taken)))
-
-mul-if4 : tie.Need-mul-if4
-mul-if4 c =
-    let h = size-high (c .before .before .before .before .before .before .before .before .args .sizes) (sized (c .before .before)) in
-    search needs
-
-returns-4 : tie.Need-returns-4
-returns-4 c =
-    let s = c .before .before .before .before .before .before .before .before .before in
-    let o = now (s .args .output) in
-    sym (gate-storage (s .args .sizes) (whole s) o (sized (c .before .before .before)) (short-bytes (s .args .sizes .«fragment_size») (whole s) o (c .if4 .taken)))
-
-mul-if5 : tie.Need-mul-if5
-mul-if5 c = search needs
-
-add-if5 : tie.Need-add-if5
-add-if5 c = search needs
-
-returns-5 : tie.Need-returns-5
-returns-5 c =
-    let s = c .before .before .before .before .before .before .before .before .before .before in
-    let o = now (s .args .output) in
-    sym (gate-storage (s .args .sizes) (whole s) o (sized (c .before .before .before .before)) (short-output (s .args .sizes .«fragment_size») (whole s) o (c .if5 .taken)))
+unfolding gateOf
+returns-2 c = rw (sized (c .before .before), ← c .before .too-short .ensures, c .if2 .taken)
 
 sound-requires : tie.Need-sound-requires
-sound-requires c κs = search needs
+sound-requires c κs = (longs c .index-room, longs c .lengths-room)
 
-returns-6 : tie.Need-returns-6
-returns-6 c =
-    let s = c .before .before .before .before .before .before .before .before .before .before .before .before in
-    let o = now (s .args .output) in
-    sym (gate-state (s .args .sizes) (whole s) o (sized (c .before .before .before .before .before .before)) (stored (c .before .before)) (sym (c .before .sound .ensures) ∙ off (c .before .sound .result) (c .if6 .taken)))
+returns-3 : tie.Need-returns-3
+unfolding gateOf
+returns-3 c = rw (sized (c .before .before .before .before), ← c .before .before .before .too-short .ensures, c .before .before .if2 .left, ← c .before .sound .ensures, off (c .before .sound .result) (c .if3 .taken))
 
-returns-7 : tie.Need-returns-7
-returns-7 c =
-    let s = c .before .before .before .before .before .before .before .before .before .before .before .before in
-    let o = now (s .args .output) in
-    sym (gate-open (s .args .sizes) (whole s) o (sized (c .before .before .before .before .before .before)) (stored (c .before .before)) (sym (c .before .sound .ensures) ∙ on (c .before .sound .result) (c .if6 .left)))
+returns-4 : tie.Need-returns-4
+unfolding gateOf
+returns-4 c = rw (sized (c .before .before .before .before), ← c .before .before .before .too-short .ensures, c .before .before .if2 .left, ← c .before .sound .ensures, on (c .before .sound .result) (c .if3 .left))
 
 pub check-spec : {M : Type 1} → statement M
 check-spec =
@@ -84,13 +47,8 @@ check-spec =
     (tie.spec
     in-range-requires
     returns
+    too-short-requires
     returns-2
-    returns-3
-    mul-if4
-    returns-4
-    mul-if5
-    add-if5
-    returns-5
     sound-requires
-    returns-6
-    returns-7)
+    returns-3
+    returns-4)
