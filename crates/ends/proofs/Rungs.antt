@@ -1,0 +1,68 @@
+-- 2 and 13 module by module, in the code's order: each rung says what the whole is. Assumes nothing.
+use mathlib.Core.Path.{_≡_, refl}
+use mathlib.Core.List.{List, []}
+use mathlib.Core.Bool.{Bool, true, false, not}
+use Prim.Native.Nat.{ℕ}
+use lib.ListN.{take}
+use Rattle.terms.specs.declared.Sizes.{Sizes}
+use Rattle.acknowledgment.specs.Gate.{lent, sound as acksSound}
+use Rattle.reassembly.specs.Gate.{tooShort as partsTooShort, sound as partsSound}
+use Rattle.arranging.specs.Ids.{soundIds}
+use Rattle.arranging.specs.Ordered.{soundAll}
+use Rattle.arranging.specs.Calls.{tooShort as orderedTooShort}
+use Rattle.ends.specs.State.{State, lending, countersOf}
+use Rattle.ends.specs.Gate.{isLent, isSound}
+
+module _ (z : Sizes) (s : State) (output : List ℕ) where
+  abbrev AcksLent : Bool
+  AcksLent = lent z (s .acks .received) (s .acks .number) (s .acks .records) (s .acks .bytes)
+
+  abbrev PartsShort : Bool
+  PartsShort = partsTooShort (z .«fragment_size») (z .«reassembly_slots») (s .parts .slots) (s .parts .entry) (s .parts .header) (s .parts .bytes) output
+
+  abbrev OrderedShort : Bool
+  OrderedShort = orderedTooShort (z .«fragment_size») (s .ordered .index) (s .ordered .lengths) (s .ordered .bytes) output
+
+  pub lent-acks : AcksLent ≡ false → isLent z s output ≡ false
+  unfolding isLent
+  lent-acks a = rw a
+
+  pub lent-parts : AcksLent ≡ true → PartsShort ≡ true → isLent z s output ≡ false
+  unfolding isLent
+  lent-parts a b = rw (a, b)
+
+  pub lent-ordered : AcksLent ≡ true → PartsShort ≡ false → isLent z s output ≡ not OrderedShort
+  unfolding isLent
+  lent-ordered a b = rw (a, b)
+
+module _ (z : Sizes) (s : State) where
+  abbrev AcksSound : Bool
+  AcksSound = acksSound z (s .acks .received) (s .acks .number) (s .acks .records)
+
+  abbrev PartsSound : Bool
+  PartsSound = partsSound (z .«fragment_size») (take (z .«reassembly_slots») (s .parts .slots)) (s .parts .entry)
+
+  abbrev OrderedSound : Bool
+  OrderedSound = soundAll (z .«fragment_size») (s .ordered .counters) (s .ordered .index) (s .ordered .lengths)
+
+  pub sound-acks : AcksSound ≡ false → isSound z s ≡ false
+  unfolding isSound
+  sound-acks a = rw a
+
+  pub sound-parts : AcksSound ≡ true → PartsSound ≡ false → isSound z s ≡ false
+  unfolding isSound
+  sound-parts a b = rw (a, b)
+
+  pub sound-ordered : AcksSound ≡ true → PartsSound ≡ true → OrderedSound ≡ false → isSound z s ≡ false
+  unfolding isSound
+  sound-ordered a b d = rw (a, b, d)
+
+  pub sound-sequenced : AcksSound ≡ true → PartsSound ≡ true → OrderedSound ≡ true → isSound z s ≡ soundIds (s .sequenced .known)
+  unfolding isSound
+  sound-sequenced a b d = rw (a, b, d)
+
+  -- 13 is about no bytes, nor about the headers beside messages
+  pub no-bytes : isSound z s
+      ≡ isSound z (lending (countersOf s) (s .acks .received) (s .acks .number) (s .acks .records) [] (s .parts .slots) (s .parts .entry) [] [] (s .ordered .index) (s .ordered .lengths) [])
+  unfolding isSound
+  no-bytes = refl

@@ -1,0 +1,131 @@
+// 1, 2 and 13, which every call of a user tries first: one gate for all of them.
+ghost use mathlib.Core.Path.{_≡_};
+ghost use mathlib.Core.Bool.{true};
+ghost use mathlib.Core.List.{[]};
+ghost use Prim.Native.Nat.{_≤_};
+ghost use lib.ListN.{length};
+ghost use Rattle.received.specs.Record.{slotCount};
+ghost use Rattle.terms.specs.Sizes.{inRange};
+ghost use Rattle.ends.specs.State.{lending};
+ghost use Rattle.ends.specs.Gate.{isLent, isSound, gateOf};
+use crate::End;
+use terms::Gate;
+use terms::Refusal;
+use terms::Sizes;
+
+pub fn check(
+    sizes: Sizes,
+    end: End,
+    received: &[u32],
+    number: &[u32],
+    records: &[u64],
+    payloads: &[u8],
+    slots: &[u32],
+    entry: &[u64],
+    header: &[u64],
+    joined: &[u8],
+    index: &[u32],
+    lengths: &[u16],
+    held: &[u8],
+    output: &[u8],
+) -> Gate
+    ensures { λ r. ⌜ r ≡ gateOf sizes (lending end (now (received .entry)) (now (number .entry)) (now (records .entry)) (now (payloads .entry)) (now (slots .entry)) (now (entry .entry)) (now (header .entry)) (now (joined .entry)) (now (index .entry)) (now (lengths .entry)) (now (held .entry))) (now (output .entry)) ⌝ }
+{
+    if !sizes.in_range() {
+        return Gate::Shut(Refusal::BadSizes);
+    }
+    if !is_lent(
+        sizes,
+        end,
+        received,
+        number,
+        records,
+        payloads,
+        slots,
+        entry,
+        header,
+        joined,
+        index,
+        lengths,
+        held,
+        output,
+    ) {
+        return Gate::Shut(Refusal::BadStorage);
+    }
+    if !is_sound(
+        sizes,
+        end,
+        received,
+        number,
+        records,
+        slots,
+        entry,
+        index,
+        lengths,
+    ) {
+        return Gate::Shut(Refusal::BadState);
+    }
+    Gate::Open
+}
+
+// Nothing that is lent is shorter than stated. For the crates above: requires sizes in range.
+pub fn is_lent(
+    sizes: Sizes,
+    end: End,
+    received: &[u32],
+    number: &[u32],
+    records: &[u64],
+    payloads: &[u8],
+    slots: &[u32],
+    entry: &[u64],
+    header: &[u64],
+    joined: &[u8],
+    index: &[u32],
+    lengths: &[u16],
+    held: &[u8],
+    output: &[u8],
+) -> bool
+    requires { ⌜ inRange sizes ≡ true ⌝ }
+    ensures { λ r. ⌜ r ≡ isLent sizes (lending end (now (received .entry)) (now (number .entry)) (now (records .entry)) (now (payloads .entry)) (now (slots .entry)) (now (entry .entry)) (now (header .entry)) (now (joined .entry)) (now (index .entry)) (now (lengths .entry)) (now (held .entry))) (now (output .entry)) ⌝ }
+{
+    if !acknowledgment::gate::is_lent(sizes, received, number, records, payloads) {
+        return false;
+    }
+    let f = sizes.fragment_size;
+    let c = sizes.reassembly_slots;
+    if reassembly::gate::too_short(f, c, slots, entry, header, joined, output) {
+        return false;
+    }
+    !arranging::gate::too_short(f, index, lengths, held, output)
+}
+
+// No table breaks a rule of 13, which is about no bytes. Requires sizes in range, and each table to be as long as stated.
+fn is_sound(
+    sizes: Sizes,
+    end: End,
+    received: &[u32],
+    number: &[u32],
+    records: &[u64],
+    slots: &[u32],
+    entry: &[u64],
+    index: &[u32],
+    lengths: &[u16],
+) -> bool
+    requires { ⌜ (inRange sizes ≡ true) × (slotCount ≤ length (now received)) × (sizes .«packets_in_flight» ≤ length (now number)) × (sizes .«packets_in_flight» ≤ length (now records)) × (sizes .«reassembly_slots» ≤ length (now slots)) × (sizes .«reassembly_slots» ≤ length (now entry)) × (256 ≤ length (now index)) × (256 ≤ length (now lengths)) ⌝ }
+    ensures { λ r. ⌜ r ≡ isSound sizes (lending end (now (received .entry)) (now (number .entry)) (now (records .entry)) [] (now (slots .entry)) (now (entry .entry)) [] [] (now (index .entry)) (now (lengths .entry)) []) ⌝ }
+{
+    if !acknowledgment::gate::is_sound(sizes, received, number, records) {
+        return false;
+    }
+    let f = sizes.fragment_size;
+    let c = sizes.reassembly_slots;
+    if !reassembly::gate::sound(f, &slots[..c], entry) {
+        return false;
+    }
+    if !arranging::ordered::sound(end.ordering, f, index, lengths) {
+        return false;
+    }
+    let sequencing = end.sequencing;
+    let known = sequencing.known;
+    known.sound()
+}
