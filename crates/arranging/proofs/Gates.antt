@@ -2,7 +2,7 @@
 use Prim.Native.Nat.{ℕ, _+_, _*_, _≤_, _<_}
 use mathlib.Core.Path.{_≡_, refl, sym, ap, _∙_}
 use mathlib.Core.List.{List}
-use mathlib.Core.Bool.{true, false}
+use mathlib.Core.Bool.{true, false, or-true}
 use mathlib.Core.Option.{none}
 use native.Mathlib.Omega.{arith}
 use lib.Dec.{ltb, eqb}
@@ -33,9 +33,25 @@ pub record Long (f : ℕ) (index lengths bytes o : List ℕ) : Type 0 where
   pub output-room : 16 * f + 17 ≤ length o
 
 module _ (f : ℕ) (index lengths bytes o : List ℕ) where
-  pub long-enough : 256 ≤ length index → 256 ≤ length lengths → 256 * f ≤ length bytes → 16 * f + 17 ≤ length o → tooShort f index lengths bytes o ≡ false
+  pub short-index : length index < 256 → tooShort f index lengths bytes o ≡ true
   unfolding tooShort
-  long-enough a b g h = rw (le-ltb (length index) 256 a, le-ltb (length lengths) 256 b, le-ltb (length bytes) (256 * f) g, le-ltb (length o) (16 * f + 17) h)
+  short-index h = rw (lt-ltb (length index) 256 h)
+
+  pub short-lengths : length lengths < 256 → tooShort f index lengths bytes o ≡ true
+  unfolding tooShort
+  short-lengths h = rw (lt-ltb (length lengths) 256 h, or-true)
+
+  pub short-bytes : length bytes < 256 * f → tooShort f index lengths bytes o ≡ true
+  unfolding tooShort
+  short-bytes h = rw (lt-ltb (length bytes) (256 * f) h, or-true, or-true)
+
+  -- the output is the last that is tried
+  pub short-output : 256 ≤ length index → 256 ≤ length lengths → 256 * f ≤ length bytes → tooShort f index lengths bytes o ≡ ltb (length o) (16 * f + 17)
+  unfolding tooShort
+  short-output a b g = rw (le-ltb (length index) 256 a, le-ltb (length lengths) 256 b, le-ltb (length bytes) (256 * f) g)
+
+  pub long-enough : 256 ≤ length index → 256 ≤ length lengths → 256 * f ≤ length bytes → 16 * f + 17 ≤ length o → tooShort f index lengths bytes o ≡ false
+  long-enough a b g h = short-output a b g ∙ le-ltb (length o) (16 * f + 17) h
 
   pub long-means : tooShort f index lengths bytes o ≡ false → Long f index lengths bytes o
   unfolding tooShort

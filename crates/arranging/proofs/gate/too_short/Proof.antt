@@ -2,23 +2,27 @@
 use borrow.Author.Needs.{needs}
 use Rattle.arranging.proofs.gate.too_short.Statement.{statement}
 use Rattle.arranging.proofs.gate.too_short.Tie as tie
-use borrow.Author.Tests.{lt-ltb, le-ltb}
-use Rattle.arranging.specs.Calls.{tooShort}
+use mathlib.Core.Path.{sym}
+use denote.Ref.{now}
+use Rattle.arranging.proofs.Gates.{short-index, short-lengths, short-bytes, short-output}
 
 returns : tie.Need-returns
-unfolding tooShort
-returns c = rw (lt-ltb _ _ (c .if1 .taken))
+returns c =
+    let a = c .before .args in
+    sym (short-index (a .f) (now (a .index)) (now (a .lengths)) (now (a .bytes)) (now (a .output)) (c .if1 .taken))
 
 returns-2 : tie.Need-returns-2
-unfolding tooShort
-returns-2 c = rw (le-ltb _ _ (c .before .if1 .left), lt-ltb _ _ (c .if2 .taken))
+returns-2 c =
+    let a = c .before .before .args in
+    sym (short-lengths (a .f) (now (a .index)) (now (a .lengths)) (now (a .bytes)) (now (a .output)) (c .if2 .taken))
 
 mul-if3 : tie.Need-mul-if3
 mul-if3 c = search needs
 
 returns-3 : tie.Need-returns-3
-unfolding tooShort
-returns-3 c = rw (le-ltb _ _ (c .before .before .if1 .left), le-ltb _ _ (c .before .if2 .left), lt-ltb _ _ (c .if3 .taken))
+returns-3 c =
+    let a = c .before .before .before .args in
+    sym (short-bytes (a .f) (now (a .index)) (now (a .lengths)) (now (a .bytes)) (now (a .output)) (c .if3 .taken))
 
 mul-result : tie.Need-mul-result
 mul-result c = search needs
@@ -27,8 +31,9 @@ add-result : tie.Need-add-result
 add-result c = search needs
 
 returns-4 : tie.Need-returns-4
-unfolding tooShort
-returns-4 c = rw (le-ltb _ _ (c .before .before .if1 .left), le-ltb _ _ (c .before .if2 .left), le-ltb _ _ (c .if3 .left))
+returns-4 c =
+    let a = c .before .before .before .args in
+    sym (short-output (a .f) (now (a .index)) (now (a .lengths)) (now (a .bytes)) (now (a .output)) (c .before .before .if1 .left) (c .before .if2 .left) (c .if3 .left))
 
 pub too-short-spec : {M : Type 1} → statement M
 too-short-spec =
