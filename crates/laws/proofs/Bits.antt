@@ -79,7 +79,7 @@ scaled false x = sym (zero-mul x)
 -- the sum's last step, as digits
 step : (p : ℕ → Bool) (k : ℕ) → bitsBelow p (suc k) ≡ digit (p k) * 2 ^ k + bitsBelow p k
 unfolding bitsBelow
-step p k = rw (scaled (p k) (2 ^ k))
+step p k = ap (λ (x : ℕ). x + bitsBelow p k) (scaled (p k) (2 ^ k))
 
 pub bits-zero : (p : ℕ → Bool) → bitsBelow p 0 ≡ 0
 unfolding bitsBelow

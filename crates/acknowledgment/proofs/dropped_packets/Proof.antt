@@ -4,7 +4,9 @@ use Rattle.acknowledgment.proofs.dropped_packets.Statement.{statement}
 use Rattle.acknowledgment.proofs.dropped_packets.Tie as tie
 use mathlib.Core.Path.{_≡_, refl, sym, ap, _∙_}
 use mathlib.Core.Bool.{true, false}
+use Prim.Native.Nat.{_+_, _≤_, _<_}
 use native.Mathlib.Omega.{arith}
+use lib.Dec.{leb}
 use lib.ListN.{length}
 use lib.Seq.{length-take-le}
 use denote.Ref.{now}
@@ -55,6 +57,12 @@ table c =
       fits = sound-means z (now (c .before .before .before .before .before .before .before .before .before .before .before .before .before .before .before .args .received)) (now (c .before .before .before .before .before .before .before .before .before .before .before .before .before .before .before .args .number)) (now (c .before .before .before .before .before .before .before .before .before .before .before .before .before .before .before .args .records)) (sound c) .fits;
     }
 
+-- the output is as long as stated: 16 x F + 17
+roomy : (c : tie.Else3) → leb (slotOf (c .before .before .before .before .before .before .before .before .before .before .before .before .args .sizes) + 17) (length (now (c .before .before .before .before .before .before .before .before .before .before .before .before .args .output))) ≡ true
+roomy c =
+    let enough : slotOf (c .before .before .before .before .before .before .before .before .before .before .before .before .args .sizes) + 17 ≤ length (now (c .before .before .before .before .before .before .before .before .before .before .before .before .args .output)) = omega arith in
+    le-leb _ _ enough
+
 in-range-requires : tie.Need-in-range-requires
 in-range-requires c κs = search needs
 
@@ -87,7 +95,9 @@ same-length-2 c = refl
 
 returns-3 : tie.Need-returns-3
 unfolding droppedOf
-returns-3 c = not-dropped (c .before .before .before .before .before .before .before .before .before .before .before .before .args .sizes) (end (c .before .before .before .before .before .before .before .before .before .before .before .before)) _ BadStorage (rw (in-range (c .before .before .before .before .before), long (c .before .before), lt-leb _ _ (c .if3 .taken)))
+returns-3 c =
+    let small : length (now (c .before .before .before .before .before .before .before .before .before .before .before .before .args .output)) < slotOf (c .before .before .before .before .before .before .before .before .before .before .before .before .args .sizes) + 17 = omega arith in
+    not-dropped (c .before .before .before .before .before .before .before .before .before .before .before .before .args .sizes) (end (c .before .before .before .before .before .before .before .before .before .before .before .before)) _ BadStorage (rw (in-range (c .before .before .before .before .before), long (c .before .before), lt-leb _ _ small))
 
 is-sound-requires : tie.Need-is-sound-requires
 is-sound-requires c κs =
@@ -101,7 +111,7 @@ returns-4 : tie.Need-returns-4
 unfolding droppedOf
 returns-4 c =
     let bad : isSound (c .before .before .before .before .before .before .before .before .before .before .before .before .before .before .before .args .sizes) (end (c .before .before .before .before .before .before .before .before .before .before .before .before .before .before .before)) ≡ false = sym (c .before .is-sound .ensures) ∙ off (c .before .is-sound .result) (c .if4 .taken) in
-    not-dropped (c .before .before .before .before .before .before .before .before .before .before .before .before .before .before .before .args .sizes) (end (c .before .before .before .before .before .before .before .before .before .before .before .before .before .before .before)) _ BadState (rw (in-range (c .before .before .before .before .before .before .before .before), long (c .before .before .before .before .before), le-leb _ _ (c .before .before .before .if3 .left), bad))
+    not-dropped (c .before .before .before .before .before .before .before .before .before .before .before .before .before .before .before .args .sizes) (end (c .before .before .before .before .before .before .before .before .before .before .before .before .before .before .before)) _ BadState (rw (in-range (c .before .before .before .before .before .before .before .before), long (c .before .before .before .before .before), roomy (c .before .before .before), bad))
 
 slice-relend-prefix-drop-one : tie.Need-slice-relend-prefix-drop-one
 slice-relend-prefix-drop-one c = lengths (c .before .before .before .before .before .before) .numbers
@@ -128,9 +138,9 @@ returns-5 c =
     let z = c .before .before .before .before .before .before .before .before .before .before .before .before .before .before .before .before .before .before .before .before .before .before .before .before .args .sizes in
     let d = dropOf (c .before .before .before .before .before .before .before .before .before .before .before .before .before .before .before .before .before .before .before .before .before .before .before .before .args .state .«remote_ack_sequence_num» .0) (tableOf z (now (c .before .before .before .before .before .before .before .before .before .before .before .before .before .before .before .before .before .before .before .before .before .before .before .before .args .number))) (now (c .before .before .before .before .before .before .before .before .before .before .before .before .before .before .before .before .before .before .before .before .before .before .before .before .args .records)) in
     record {
-      answer-is = rw (in-range (c .before .before .before .before .before .before .before .before .before .before .before .before .before .before .before .before .before), long (c .before .before .before .before .before .before .before .before .before .before .before .before .before .before), le-leb _ _ (c .before .before .before .before .before .before .before .before .before .before .before .before .if3 .left), sound (c .before .before .before .before .before .before .before .before .before)) (c .answered .ensures ∙ ap answeredBy (done .0));
-      number-is = rw (in-range (c .before .before .before .before .before .before .before .before .before .before .before .before .before .before .before .before .before), long (c .before .before .before .before .before .before .before .before .before .before .before .before .before .before), le-leb _ _ (c .before .before .before .before .before .before .before .before .before .before .before .before .if3 .left), sound (c .before .before .before .before .before .before .before .before .before)) (number-left d z (now (c .before .before .before .before .before .before .before .before .before .before .before .before .before .before .before .before .before .before .before .before .before .before .before .before .args .number)) _ (done .1 .0));
-      output-is = rw (in-range (c .before .before .before .before .before .before .before .before .before .before .before .before .before .before .before .before .before), long (c .before .before .before .before .before .before .before .before .before .before .before .before .before .before), le-leb _ _ (c .before .before .before .before .before .before .before .before .before .before .before .before .if3 .left), sound (c .before .before .before .before .before .before .before .before .before)) (output-left d z (end (c .before .before .before .before .before .before .before .before .before .before .before .before .before .before .before .before .before .before .before .before .before .before .before .before)) (now (c .before .before .before .before .before .before .before .before .before .before .before .before .before .before .before .before .before .before .before .before .before .before .before .before .args .output)) _ (done .1 .1));
+      answer-is = rw (in-range (c .before .before .before .before .before .before .before .before .before .before .before .before .before .before .before .before .before), long (c .before .before .before .before .before .before .before .before .before .before .before .before .before .before), roomy (c .before .before .before .before .before .before .before .before .before .before .before .before), sound (c .before .before .before .before .before .before .before .before .before)) (c .answered .ensures ∙ ap answeredBy (done .0));
+      number-is = rw (in-range (c .before .before .before .before .before .before .before .before .before .before .before .before .before .before .before .before .before), long (c .before .before .before .before .before .before .before .before .before .before .before .before .before .before), roomy (c .before .before .before .before .before .before .before .before .before .before .before .before), sound (c .before .before .before .before .before .before .before .before .before)) (number-left d z (now (c .before .before .before .before .before .before .before .before .before .before .before .before .before .before .before .before .before .before .before .before .before .before .before .before .args .number)) _ (done .1 .0));
+      output-is = rw (in-range (c .before .before .before .before .before .before .before .before .before .before .before .before .before .before .before .before .before), long (c .before .before .before .before .before .before .before .before .before .before .before .before .before .before), roomy (c .before .before .before .before .before .before .before .before .before .before .before .before), sound (c .before .before .before .before .before .before .before .before .before)) (output-left d z (end (c .before .before .before .before .before .before .before .before .before .before .before .before .before .before .before .before .before .before .before .before .before .before .before .before)) (now (c .before .before .before .before .before .before .before .before .before .before .before .before .before .before .before .before .before .before .before .before .before .before .before .before .args .output)) _ (done .1 .1));
     }
 
 pub dropped-packets-spec : {M : Type 1} → statement M

@@ -1,12 +1,14 @@
 use Rattle.splitter.proofs.fragment.Statement.{statement}
 use Rattle.splitter.proofs.fragment.Tie as tie
-use mathlib.Core.Path.{sym, _∙_}
-use Prim.Native.Nat.{_-_, _*_, _<_}
+use mathlib.Core.Path.{_≡_, sym, _∙_}
+use mathlib.Core.List.{[]}
+use Prim.Native.Nat.{_+_, _-_, _*_, _<_}
 use native.Mathlib.Nat.{add-sub-cancel-left}
 use native.Mathlib.Omega.{arith}
-use lib.ListN.{length, drop, length-drop}
+use lib.ListN.{length, getD, take, drop, length-drop}
 use lib.Seq.{take-all}
 use denote.Ref.{now}
+use Rattle.splitter.specs.Split.{pieces}
 use Rattle.splitter.proofs.Pieces.{begins, piece-at}
 
 starts : (c : tie.Start) → c .args .j * c .args .f < length (now (c .args .payload))
@@ -33,7 +35,9 @@ part-result-end c = omega (arith, starts (c .before))
 returns : tie.Need-returns
 returns c =
     let a = c .before .before .args in
-    rw (piece-at (a .f) (now (a .payload)) (c .before .before .pre .0) (a .j), add-sub-cancel-left (a .j * a .f) (a .f))
+    let l = now (a .payload) in
+    let piece : take (a .j * a .f + a .f - a .j * a .f) (drop (a .j * a .f) l) ≡ getD (pieces (a .f) l) (a .j) [] = rw (piece-at (a .f) l (c .before .before .pre .0) (a .j), add-sub-cancel-left (a .j * a .f) (a .f)) in
+    piece
 
 sub-result-2 : tie.Need-sub-result-2
 sub-result-2 c = omega (arith, starts (c .before))

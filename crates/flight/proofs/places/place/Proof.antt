@@ -3,11 +3,23 @@ use borrow.Author.Needs.{needs}
 use Rattle.flight.proofs.places.place.Statement.{statement}
 use Rattle.flight.proofs.places.place.Tie as tie
 use mathlib.Core.Path.{refl}
+use Prim.Native.Nat.{ℕ, _%_, _≤_, _<_}
 use native.Mathlib.Nat.{mod-lt}
-use lib.ListN.{length}
+use native.Mathlib.Omega.{arith}
+use lib.ListN.{length, getD}
 use denote.Ref.{now}
 use borrow.Author.Tests.{lt-ltb, le-ltb}
 use Rattle.flight.specs.Places.{placeOf}
+
+-- what stands in the number's own place
+abbrev own : tie.Start → ℕ
+own c = getD (now (c .args .number)) (c .args .packet .0 % length (now (c .args .number))) 0
+
+occupied : (c : tie.Then2) → own (c .before .before .before .before .before .before) < 65536
+occupied c = omega arith
+
+free : (c : tie.Else2) → 65536 ≤ own (c .before .before .before .before .before .before)
+free c = omega arith
 
 find-requires : tie.Need-find-requires
 find-requires c κs = search needs
@@ -33,11 +45,11 @@ first-free-requires c κs = search needs
 
 returns-2 : tie.Need-returns-2
 unfolding placeOf
-returns-2 c = rw (← c .before .before .before .before .before .find .ensures, le-ltb _ _ (c .before .before .before .before .if1 .left), lt-ltb _ _ (c .before .if2 .taken), c .first-free .ensures)
+returns-2 c = rw (← c .before .before .before .before .before .find .ensures, le-ltb _ _ (c .before .before .before .before .if1 .left), lt-ltb _ _ (occupied (c .before)), c .first-free .ensures)
 
 returns-3 : tie.Need-returns-3
 unfolding placeOf
-returns-3 c = rw (← c .before .before .before .before .find .ensures, le-ltb _ _ (c .before .before .before .if1 .left), le-ltb _ _ (c .if2 .left))
+returns-3 c = rw (← c .before .before .before .before .find .ensures, le-ltb _ _ (c .before .before .before .if1 .left), le-ltb _ _ (free c))
 
 pub place-spec : {M : Type 1} → statement M
 place-spec =
