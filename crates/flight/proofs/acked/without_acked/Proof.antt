@@ -3,9 +3,18 @@ use borrow.Author.Needs.{needs}
 use Rattle.flight.proofs.acked.without_acked.Statement.{statement}
 use Rattle.flight.proofs.acked.without_acked.Tie as tie
 use mathlib.Core.Path.{refl}
+use Prim.Native.Nat.{_≤_, _<_}
+use native.Mathlib.Omega.{arith}
 use borrow.Author.Tests.{lt-ltb, le-ltb, le-leb, lt-leb, eq-eqb, ne-eqb}
 use Rattle.sequence_buffer.specs.Buffer.{emptied}
 use Rattle.flight.specs.Acked.{isAcked}
+
+-- a field speaks of the 32 numbers before the acknowledged one
+near : (c : tie.Then3) → c .before .before .distance .result ≤ 32
+near c = omega arith
+
+far : (c : tie.Else3) → 32 < c .before .before .distance .result
+far c = omega arith
 
 cast-distance : tie.Need-cast-distance
 cast-distance c = search needs
@@ -28,15 +37,15 @@ shr-if4 c = search needs
 
 returns-2 : tie.Need-returns-2
 unfolding isAcked emptied
-returns-2 c = rw (lt-ltb _ _ (c .before .before .before .before .if1 .taken), ← c .before .before .before .distance .ensures, ne-eqb _ _ (c .before .before .if2 .left), le-leb _ _ (c .before .if3 .taken), eq-eqb _ _ (c .if4 .taken))
+returns-2 c = rw (lt-ltb _ _ (c .before .before .before .before .if1 .taken), ← c .before .before .before .distance .ensures, ne-eqb _ _ (c .before .before .if2 .left), le-leb _ _ (near (c .before)), eq-eqb _ _ (c .if4 .taken))
 
 returns-3 : tie.Need-returns-3
 unfolding isAcked emptied
-returns-3 c = rw (lt-ltb _ _ (c .before .before .before .before .if1 .taken), ← c .before .before .before .distance .ensures, ne-eqb _ _ (c .before .before .if2 .left), le-leb _ _ (c .before .if3 .taken), ne-eqb _ _ (c .if4 .left))
+returns-3 c = rw (lt-ltb _ _ (c .before .before .before .before .if1 .taken), ← c .before .before .before .distance .ensures, ne-eqb _ _ (c .before .before .if2 .left), le-leb _ _ (near (c .before)), ne-eqb _ _ (c .if4 .left))
 
 returns-4 : tie.Need-returns-4
 unfolding isAcked emptied
-returns-4 c = rw (lt-ltb _ _ (c .before .before .before .if1 .taken), ← c .before .before .distance .ensures, ne-eqb _ _ (c .before .if2 .left), lt-leb _ _ (c .if3 .left))
+returns-4 c = rw (lt-ltb _ _ (c .before .before .before .if1 .taken), ← c .before .before .distance .ensures, ne-eqb _ _ (c .before .if2 .left), lt-leb _ _ (far c))
 
 returns-5 : tie.Need-returns-5
 unfolding isAcked emptied
