@@ -2,7 +2,8 @@ use borrow.Author.Needs.{needs}
 use Rattle.ordering.proofs.taking.take_next.Statement.{statement}
 use Rattle.ordering.proofs.taking.take_next.Tie as tie
 use mathlib.Core.Path.{_≡_, refl, sym, ap, _∙_}
-use Prim.Native.Nat.{ℕ, _-_, _*_}
+use Prim.Native.Nat.{ℕ, _+_, _-_, _*_}
+use mathlib.Core.List.{List, _++_}
 use native.Mathlib.Omega.{arith}
 use native.Mathlib.Nat.{add-sub-cancel-left}
 use lib.ListN.{length, getD, take, drop}
@@ -17,6 +18,14 @@ whole c = lending (c .args .stream) (now (c .args .index)) (now (c .args .length
 
 known : (c : tie.Else1) → Touched (c .before .before .before .before .before .before .before .before .args .f) (whole (c .before .before .before .before .before .before .before .before)) (c .before .find .result)
 known c = touched (c .before .before .before .before .before .before .before .before .args .f) (whole (c .before .before .before .before .before .before .before .before)) (c .before .find .result) (c .before .before .before .before .before .before .before .before .pre .0) (c .if1 .left)
+
+-- The item is as many bytes from its place on as its length says:
+-- all of them are at the output's start, and what was after them stays.
+abbrev part : tie.Start → ℕ → List ℕ
+part s k = take (k * s .args .f + getD (now (s .args .lengths)) k 0 - k * s .args .f) (drop (k * s .args .f) (now (s .args .bytes)))
+
+handed-out : (c : tie.After-copy) → c .copy .last .1 .0 ≡ take (length (part (c .before .before .before .before .before .before .before .before .before .before .before .before .before) (c .before .before .before .before .before .before .find .result))) (part (c .before .before .before .before .before .before .before .before .before .before .before .before .before) (c .before .before .before .before .before .before .find .result)) ++ drop (length (part (c .before .before .before .before .before .before .before .before .before .before .before .before .before) (c .before .before .before .before .before .before .find .result))) (now (c .before .before .before .before .before .before .before .before .before .before .before .before .before .args .output))
+handed-out c = c .copy .ensures .1
 
 slice-reshare-prefix-find : tie.Need-slice-reshare-prefix-find
 slice-reshare-prefix-find c = search needs
@@ -59,9 +68,7 @@ mul-at c =
     omega arith
 
 add-copy : tie.Need-add-copy
-add-copy c =
-    let h = known (c .before) in
-    omega arith
+add-copy c = omega (arith, known (c .before))
 
 sub-copy : tie.Need-sub-copy
 sub-copy c = search needs
@@ -70,9 +77,7 @@ part-copy-start : tie.Need-part-copy-start
 part-copy-start c = search needs
 
 part-copy-end : tie.Need-part-copy-end
-part-copy-end c =
-    let h = known (c .before .before) in
-    omega (arith, c .before .before .before .before .before .before .before .before .before .before .pre .0 .bytes)
+part-copy-end c = omega (arith, known (c .before .before), c .before .before .before .before .before .before .before .before .before .before .pre .0 .bytes)
 
 copy-requires : tie.Need-copy-requires
 copy-requires c κs =
@@ -148,7 +153,7 @@ returns-2 c =
     record {
       answer-is = sym w;
       leaves = rw (w, q) (record { stream-is = c .shrink .ensures; index-is = refl; lengths-are = refl; bytes-are = c .before .before .before .move-down .ensures });
-      output-is = rw (w, q) (c .before .before .before .before .before .before .before .before .before .copy .ensures .1 ∙ copied-out (now (s .args .bytes)) (now (s .args .output)) (k * s .args .f) (getD (now (s .args .lengths)) k 0));
+      output-is = rw (w, q) (handed-out (c .before .before .before .before .before .before .before .before .before) ∙ copied-out (now (s .args .bytes)) (now (s .args .output)) (k * s .args .f) (getD (now (s .args .lengths)) k 0));
     }
 
 pub take-next-spec : {M : Type 1} → statement M
