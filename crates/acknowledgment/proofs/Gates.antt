@@ -1,6 +1,6 @@
--- What is known once 1, 2 and 13 have been passed. Assumes nothing.
-use mathlib.Core.Path.{_≡_}
-use mathlib.Core.Bool.{true, false, not, _&&_}
+-- What is known once 1, 2 and 13 have been passed, and what is told where 13 is not. Assumes nothing.
+use mathlib.Core.Path.{_≡_, ap}
+use mathlib.Core.Bool.{Bool, true, false, cond, not, _&&_}
 use mathlib.Core.List.{List}
 use Prim.Native.Nat.{ℕ, _*_, _≤_}
 use lib.ListN.{length}
@@ -12,7 +12,10 @@ use Rattle.terms.specs.declared.Sizes.{Sizes}
 use Rattle.received.specs.Record.{slotCount, slotsOf}
 use Rattle.flight.specs.Places.{overLong, sound as flightSound}
 use Rattle.acknowledgment.specs.State.{tableOf, slotOf}
-use Rattle.acknowledgment.specs.Gate.{flightLent, lent, sound}
+use Rattle.terms.specs.Sizes.{inRange}
+use Rattle.terms.specs.declared.Refusal.{Refusal}
+use Rattle.terms.specs.declared.Refusal.the-variants.{BadSizes, BadState}
+use Rattle.acknowledgment.specs.Gate.{flightLent, lent, sound, gated}
 
 pub flight-means : (z : Sizes) (number records : List ℕ) → flightLent z number records ≡ true
     → (z .«packets_in_flight» ≤ length number) × (z .«packets_in_flight» ≤ length records)
@@ -55,3 +58,7 @@ sound-means z received number records e =
       fits = off (overLong (slotOf z) (tableOf z number) records) (q .0);
       once-sent = off (twice (tableOf z number)) (q .1);
     }
+
+-- sizes in range and long storage with a bad state: 13, whatever the answer would be
+pub unsound : {A : Type 0} (z : Sizes) (refused : Refusal → A) (answer : A) → inRange z ≡ true → gated z true false refused answer ≡ refused BadState
+unsound {A = A} z refused answer e = ap (λ (b : Bool). cond {A = A} b (refused BadState) (refused BadSizes)) e

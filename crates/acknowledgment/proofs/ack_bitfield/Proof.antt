@@ -10,11 +10,18 @@ use denote.Ref.{now}
 use Rattle.laws.proofs.Cases.{on, off}
 use Rattle.terms.specs.Sizes.{inRange}
 use borrow.Author.Tests.{le-leb, lt-leb}
-use Rattle.received.specs.Record.{slotCount}
+use Rattle.received.specs.Record.{slotCount, slotsOf}
+use Rattle.received.specs.Field.{fieldOf}
 use Rattle.acknowledgment.specs.Questions.{toldOf}
+use Rattle.acknowledgment.specs.declared.AckBitfield.the-variants.{Field, Refused as NotTold}
+use Rattle.acknowledgment.proofs.Gates.{unsound}
 
 in-range : (c : tie.Else1) → inRange (c .before .before .before .args .sizes) ≡ true
 in-range c = sym (c .before .in-range .ensures) ∙ on (c .before .in-range .result) (c .if1 .left)
+
+-- the field is that of the received record
+told : (c : tie.After-ack-bitfield) → c .ack-bitfield .result ≡ fieldOf (c .before .before .before .before .before .before .before .before .args .state .received .0) (slotsOf (now (c .before .before .before .before .before .before .before .before .args .received)))
+told c = c .ack-bitfield .ensures
 
 in-range-requires : tie.Need-in-range-requires
 in-range-requires c κs = search needs
@@ -37,14 +44,14 @@ has-twice-requires c κs = search needs
 
 returns-3 : tie.Need-returns-3
 unfolding toldOf
-returns-3 c = rw (in-range (c .before .before .before .before), le-leb _ _ (c .before .before .before .if2 .left), ← c .before .has-twice .ensures, c .if3 .taken)
+returns-3 c = rw (le-leb _ _ (c .before .before .before .if2 .left), ← c .before .has-twice .ensures, c .if3 .taken) (sym (unsound _ NotTold (Field 0) (in-range (c .before .before .before .before))))
 
 ack-bitfield-requires : tie.Need-ack-bitfield-requires
 ack-bitfield-requires c κs = search needs
 
 returns-4 : tie.Need-returns-4
 unfolding toldOf
-returns-4 c = rw (in-range (c .before .before .before .before .before), le-leb _ _ (c .before .before .before .before .if2 .left), ← c .before .before .has-twice .ensures, c .before .if3 .left, c .ack-bitfield .ensures)
+returns-4 c = rw (in-range (c .before .before .before .before .before), le-leb _ _ (c .before .before .before .before .if2 .left), ← c .before .before .has-twice .ensures, c .before .if3 .left, told c)
 
 pub ack-bitfield-spec : {M : Type 1} → statement M
 ack-bitfield-spec =

@@ -12,10 +12,12 @@ use denote.Ref.{now}
 use Rattle.laws.proofs.Cases.{on, off}
 use Rattle.terms.specs.Sizes.{inRange}
 use Rattle.terms.proofs.Ranges.{in-range-means}
+use Rattle.flight.specs.Places.{countOf}
 use Rattle.acknowledgment.specs.State.{tableOf}
 use Rattle.acknowledgment.specs.Gate.{flightLent}
 use Rattle.acknowledgment.specs.Questions.{countedOf}
-use Rattle.acknowledgment.proofs.Gates.{flight-means}
+use Rattle.acknowledgment.specs.declared.InFlight.the-variants.{Packets, Refused as NotCounted}
+use Rattle.acknowledgment.proofs.Gates.{flight-means, unsound}
 
 in-range : (c : tie.Else1) → inRange (c .before .before .before .before .args .sizes) ≡ true
 in-range c = sym (c .before .in-range .ensures) ∙ on (c .before .in-range .result) (c .if1 .left)
@@ -28,6 +30,10 @@ lengths c = flight-means (c .before .before .before .before .before .before .arg
 
 whole : (c : tie.Else2) → length (tableOf (c .before .before .before .before .before .before .args .sizes) (now (c .before .before .before .before .before .before .args .number))) ≡ c .before .before .before .before .before .before .args .sizes .«packets_in_flight»
 whole c = length-take-le (c .before .before .before .before .before .before .args .sizes .«packets_in_flight») (now (c .before .before .before .before .before .before .args .number)) (lengths c .0)
+
+-- the table alone is counted
+counted : (c : tie.After-count) → c .count .result ≡ countOf (tableOf (c .before .before .before .before .before .before .before .before .before .before .before .args .sizes) (now (c .before .before .before .before .before .before .before .before .before .before .before .args .number)))
+counted c = c .count .ensures
 
 in-range-requires : tie.Need-in-range-requires
 in-range-requires c κs = search needs
@@ -60,7 +66,7 @@ returns-3 : tie.Need-returns-3
 unfolding countedOf
 returns-3 c =
     let bad = sym (c .before .is-sound .ensures) ∙ off (c .before .is-sound .result) (c .if3 .taken) in
-    rw (in-range (c .before .before .before .before .before .before), long (c .before .before .before .before), bad)
+    rw (long (c .before .before .before .before), bad) (sym (unsound _ NotCounted (Packets 0) (in-range (c .before .before .before .before .before .before))))
 
 count-requires : tie.Need-count-requires
 count-requires c κs = search needs
@@ -69,7 +75,7 @@ returns-4 : tie.Need-returns-4
 unfolding countedOf
 returns-4 c =
     let good = sym (c .before .before .is-sound .ensures) ∙ on (c .before .before .is-sound .result) (c .before .if3 .left) in
-    rw (in-range (c .before .before .before .before .before .before .before), long (c .before .before .before .before .before), good, c .count .ensures)
+    rw (in-range (c .before .before .before .before .before .before .before), long (c .before .before .before .before .before), good, counted c)
 
 pub packets-in-flight-spec : {M : Type 1} → statement M
 packets-in-flight-spec =

@@ -9,7 +9,12 @@ use lib.Seq.{length-take-le}
 use lib.ListN.{length, drop}
 use denote.Ref.{now}
 use native.Mathlib.Omega.{arith}
-use Rattle.received.specs.Record.{slotCount}
+use Rattle.sequence_buffer.specs.Buffer.{inserted}
+use Rattle.received.specs.Record.{slotCount, slotsOf}
+
+-- what is answered of the record's slots
+answer : (c : tie.After-insert) → c .insert .result ≡ inserted (c .before .before .before .args .sequence-num .0) (slotsOf (now (c .before .before .before .args .received))) (c .before .before .before .args .number .0)
+answer c = c .insert .ensures .0
 
 slice-relend-prefix-insert : tie.Need-slice-relend-prefix-insert
 slice-relend-prefix-insert c = search needs
@@ -24,7 +29,10 @@ same-length : tie.Need-same-length
 same-length c = search needs
 
 returns : tie.Need-returns
-returns c = (c .before .before .insert .ensures .0, ap (λ (l : List ℕ). l ++ drop slotCount (now (c .before .before .before .before .before .args .received))) (c .before .before .insert .ensures .1))
+returns c = (
+  answer (c .before .before),
+  ap (λ (l : List ℕ). l ++ drop slotCount (now (c .before .before .before .before .before .args .received))) (c .before .before .insert .ensures .1),
+)
 
 pub receive-spec : {M : Type 1} → statement M
 receive-spec =

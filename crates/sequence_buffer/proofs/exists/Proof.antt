@@ -1,7 +1,11 @@
 use borrow.Author.Needs.{needs}
 use Rattle.sequence_buffer.proofs.exists.Statement.{statement}
 use Rattle.sequence_buffer.proofs.exists.Tie as tie
-use mathlib.Core.Path.{refl}
+use mathlib.Core.Path.{_≡_, refl}
+use lib.Dec.{eqb}
+use lib.ListN.{getD}
+use denote.Ref.{now}
+use Rattle.sequence_buffer.specs.Buffer.{holds}
 
 slot-requires : tie.Need-slot-requires
 slot-requires c κs = search needs
@@ -16,7 +20,10 @@ cast-result : tie.Need-cast-result
 cast-result c = search needs
 
 returns : tie.Need-returns
-returns c = rw (c .before .before .slot .ensures .0)
+returns c =
+    let a = c .before .before .before .before .args in
+    let held : eqb (getD (now (a .slots)) (c .before .before .slot .result) 0) (a .number .0) ≡ holds (now (a .slots)) (a .number .0) = rw (c .before .before .slot .ensures .0) in
+    held
 
 pub exists-spec : {M : Type 1} → statement M
 exists-spec =

@@ -4,8 +4,17 @@ use Rattle.sequence_buffer.proofs.remove.Tie as tie
 use mathlib.Core.Path.{_≡_, refl, sym, _∙_}
 use borrow.Author.Tests.{eq-eqb, ne-eqb}
 use mathlib.Core.Bool.{true, false}
+use native.Mathlib.Omega.{arith}
+use lib.ListN.{getD}
 use denote.Ref.{now}
 use Rattle.sequence_buffer.specs.Buffer.{holds, removedSlots}
+
+-- the number stands in its slot, or not
+here : (c : tie.Then1) → getD (now (c .before .before .before .before .before .args .slots)) (c .before .before .before .slot .result) 0 ≡ c .before .before .before .before .before .args .number .0
+here c = omega arith
+
+not-here : (c : tie.Else1) → getD (now (c .before .before .before .before .before .args .slots)) (c .before .before .before .slot .result) 0 ≡ c .before .before .before .before .before .args .number .0 → ⊥
+not-here c = omega arith
 
 slot-requires : tie.Need-slot-requires
 slot-requires c κs = search needs
@@ -31,13 +40,13 @@ same-length c = search needs
 returns : tie.Need-returns
 unfolding removedSlots
 returns c =
-    let held : holds (now (c .before .before .before .before .before .args .slots)) (c .before .before .before .before .before .args .number .0) ≡ true = rw (← c .before .before .before .slot .ensures .0) (eq-eqb _ _ (c .if1 .taken)) in
+    let held : holds (now (c .before .before .before .before .before .args .slots)) (c .before .before .before .before .before .args .number .0) ≡ true = rw (← c .before .before .before .slot .ensures .0) (eq-eqb _ _ (here c)) in
     (sym held, rw (held, ← c .before .before .before .slot .ensures .0))
 
 returns-2 : tie.Need-returns-2
 unfolding removedSlots
 returns-2 c =
-    let held : holds (now (c .before .before .before .before .before .args .slots)) (c .before .before .before .before .before .args .number .0) ≡ false = rw (← c .before .before .before .slot .ensures .0) (ne-eqb _ _ (c .if1 .left)) in
+    let held : holds (now (c .before .before .before .before .before .args .slots)) (c .before .before .before .before .before .args .number .0) ≡ false = rw (← c .before .before .before .slot .ensures .0) (ne-eqb _ _ (not-here c)) in
     (sym held, rw held)
 
 pub remove-spec : {M : Type 1} → statement M
