@@ -3,13 +3,21 @@ use Rattle.sequence_buffer.proofs.advance_sequence.Statement.{statement
 use Rattle.sequence_buffer.proofs.advance_sequence.Tie as tie
 use mathlib.Core.Path.{_≡_, refl, sym, ap, _∙_}
 use mathlib.Core.Bool.{true, false}
+use mathlib.Core.List.{map}
 use Prim.Native.Nat.{ℕ}
+use lib.Dec.{leb}
+use lib.ListN.{length}
+use denote.Ref.{now}
 use Rattle.serial.specs.Order.{greater}
-use Rattle.sequence_buffer.specs.Buffer.{moves, advancedNum, advancedSlots}
+use Rattle.sequence_buffer.specs.Buffer.{moves, goes, emptied, advancedNum, advancedSlots}
 
 -- what the test says of `moves`
 moving : (c : tie.After-sequence-greater-than) → moves (c .before .before .before .args .sequence-num) (c .before .before .before .args .number) ≡ c .sequence-greater-than .result
 moving c = ap (λ (x : ℕ). greater x (c .before .before .before .args .sequence-num)) (sym (c .before .successor .ensures)) ∙ sym (c .sequence-greater-than .ensures)
+
+-- the whole buffer goes where the number is at least as far on as there are slots
+left : (c : tie.After-remove-entries) → c .remove-entries .last .0 ≡ map (emptied (goes (leb (length (now (c .before .before .before .before .before .before .before .args .slots))) (c .before .before .distance .result)) (c .before .before .before .before .before .before .before .args .sequence-num) (c .before .before .before .before .before .before .before .args .number))) (now (c .before .before .before .before .before .before .before .args .slots))
+left c = c .remove-entries .ensures
 
 successor-requires : tie.Need-successor-requires
 successor-requires c κs = search needs
@@ -33,7 +41,7 @@ returns : tie.Need-returns
 unfolding advancedNum advancedSlots
 returns c =
     let m = moving (c .before .before .before .before .before .before) ∙ c .before .before .before .before .before .if1 .taken in
-    (rw m (c .before .before .before .before .before .before .before .successor .ensures), rw (m, c .before .before .remove-entries .ensures, c .before .before .before .before .distance .ensures))
+    (rw m (c .before .before .before .before .before .before .before .successor .ensures), rw (m, left (c .before .before), c .before .before .before .before .distance .ensures))
 
 returns-2 : tie.Need-returns-2
 unfolding advancedNum advancedSlots

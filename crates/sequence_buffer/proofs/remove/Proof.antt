@@ -5,9 +5,9 @@ use mathlib.Core.Path.{_≡_, refl, sym, _∙_}
 use borrow.Author.Tests.{eq-eqb, ne-eqb}
 use mathlib.Core.Bool.{true, false}
 use native.Mathlib.Omega.{arith}
-use lib.ListN.{getD}
+use lib.ListN.{getD, set}
 use denote.Ref.{now}
-use Rattle.sequence_buffer.specs.Buffer.{holds, removedSlots}
+use Rattle.sequence_buffer.specs.Buffer.{none, holds, removedSlots}
 
 -- the number stands in its slot, or not
 here : (c : tie.Then1) → getD (now (c .before .before .before .before .before .args .slots)) (c .before .before .before .slot .result) 0 ≡ c .before .before .before .before .before .args .number .0
@@ -41,7 +41,9 @@ returns : tie.Need-returns
 unfolding removedSlots
 returns c =
     let held : holds (now (c .before .before .before .before .before .args .slots)) (c .before .before .before .before .before .args .number .0) ≡ true = rw (← c .before .before .before .slot .ensures .0) (eq-eqb _ _ (here c)) in
-    (sym held, rw (held, ← c .before .before .before .slot .ensures .0))
+    let a = c .before .before .before .before .before .args in
+    let emptied : set (now (a .slots)) (c .before .before .before .slot .result) none ≡ removedSlots (now (a .slots)) (a .number .0) = rw (held, ← c .before .before .before .slot .ensures .0) in
+    (sym held, emptied)
 
 returns-2 : tie.Need-returns-2
 unfolding removedSlots
