@@ -29,7 +29,10 @@ returns c = rw (← half (c .before), c .if2 .taken)
 
 returns-2 : tie.Need-returns-2
 unfolding greater
-returns-2 c = rw (lt-ltb _ _ (c .if3 .taken), ← half (c .before .before), c .before .if2 .left)
+returns-2 c =
+    let a = c .before .before .before .args in
+    let far : ltb 32768 (a .b - a .a) ≡ greater (a .a) (a .b) = rw (lt-ltb _ _ (c .if3 .taken), ← half (c .before .before), c .before .if2 .left) in
+    far
 
 returns-3 : tie.Need-returns-3
 unfolding greater

@@ -2,7 +2,8 @@
 use borrow.Author.Needs.{needs}
 use Rattle.flight.proofs.lost.is_lost.Statement.{statement}
 use Rattle.flight.proofs.lost.is_lost.Tie as tie
-use mathlib.Core.Path.{refl}
+use mathlib.Core.Path.{_≡_, refl}
+use lib.Dec.{ltb}
 use borrow.Author.Tests.{lt-ltb, le-ltb}
 use Rattle.flight.specs.Lost.{isLost}
 
@@ -20,7 +21,10 @@ distance-requires c κs = search needs
 
 returns : tie.Need-returns
 unfolding isLost
-returns c = rw (lt-ltb _ _ (c .before .before .before .if1 .taken), ← c .before .before .sequence-less-than .ensures, c .before .if2 .taken, ← c .distance .ensures)
+returns c =
+    let a = c .before .before .before .before .args in
+    let more : ltb 32 (c .distance .result) ≡ isLost (a .remote .0) (a .entry) = rw (lt-ltb _ _ (c .before .before .before .if1 .taken), ← c .before .before .sequence-less-than .ensures, c .before .if2 .taken, ← c .distance .ensures) in
+    more
 
 returns-2 : tie.Need-returns-2
 unfolding isLost
