@@ -1,4 +1,4 @@
--- A turn keeps every length, and each brings the count one nearer to the rounds.
+-- A turn keeps every length, and each brings the count one nearer to how often it is.
 use borrow.Author.Needs.{needs}
 use mathlib.Core.Path.{_≡_}
 use Prim.Native.Nat.{_-_, _≤_}
@@ -7,11 +7,11 @@ use Rattle.bench.proofs.packets.turns.Statement.{statement}
 use Rattle.bench.proofs.packets.turns.Tie as tie
 
 abbrev Inv-loop : tie.InvT-loop
-Inv-loop received₀ number₀ records₀ bytes₀ rounds after₀ k₀ received number records bytes after k =
-    (k ≤ rounds) × (length received ≡ length received₀) × (length number ≡ length number₀) × (length records ≡ length records₀) × (length bytes ≡ length bytes₀)
+Inv-loop sizes received₀ number₀ records₀ bytes₀ call others often after₀ k₀ received number records bytes after k =
+    (k ≤ often) × (length received ≡ length received₀) × (length number ≡ length number₀) × (length records ≡ length records₀) × (length bytes ≡ length bytes₀)
 
 abbrev μ-loop : tie.MeasureT-loop
-μ-loop received₀ number₀ records₀ bytes₀ rounds after₀ k₀ received number records bytes after k = rounds - k
+μ-loop sizes received₀ number₀ records₀ bytes₀ call others often after₀ k₀ received number records bytes after k = often - k
 
 loop-holds : tie.Need-loop-holds Inv-loop μ-loop
 loop-holds c = search needs

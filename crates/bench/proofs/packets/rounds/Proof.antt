@@ -1,0 +1,69 @@
+-- A round keeps every length, and each brings the count one nearer to how often it is.
+use borrow.Author.Needs.{needs}
+use mathlib.Core.Path.{_≡_}
+use Prim.Native.Nat.{_-_, _≤_}
+use lib.ListN.{length}
+use Rattle.bench.proofs.packets.rounds.Statement.{statement}
+use Rattle.bench.proofs.packets.rounds.Tie as tie
+
+abbrev Inv-loop : tie.InvT-loop
+Inv-loop sizes received₀ number₀ records₀ bytes₀ call others often output₀ after₀ k₀ received number records bytes output after k =
+    (k ≤ often) × (length received ≡ length received₀) × (length number ≡ length number₀) × (length records ≡ length records₀) × (length bytes ≡ length bytes₀)
+
+abbrev μ-loop : tie.MeasureT-loop
+μ-loop sizes received₀ number₀ records₀ bytes₀ call others often output₀ after₀ k₀ received number records bytes output after k = often - k
+
+slice-aggregate-output : tie.Need-slice-aggregate-output Inv-loop μ-loop
+slice-aggregate-output c = search needs
+
+loop-holds : tie.Need-loop-holds Inv-loop μ-loop
+loop-holds c = search needs
+
+round-requires : tie.Need-round-requires Inv-loop μ-loop
+round-requires c κs = search needs
+
+add-k : tie.Need-add-k Inv-loop μ-loop
+add-k c = search needs
+
+loop-less : tie.Need-loop-less Inv-loop μ-loop
+loop-less c = search needs
+
+loop-again : tie.Need-loop-again Inv-loop μ-loop
+loop-again c = search needs
+
+next-number-requires : tie.Need-next-number-requires Inv-loop μ-loop
+next-number-requires c κs = search needs
+
+same-length : tie.Need-same-length Inv-loop μ-loop
+same-length c = search needs
+
+same-length-2 : tie.Need-same-length-2 Inv-loop μ-loop
+same-length-2 c = search needs
+
+same-length-3 : tie.Need-same-length-3 Inv-loop μ-loop
+same-length-3 c = search needs
+
+same-length-4 : tie.Need-same-length-4 Inv-loop μ-loop
+same-length-4 c = search needs
+
+returns : tie.Need-returns Inv-loop μ-loop
+returns c = search needs
+
+pub rounds-spec : {M : Type 1} → statement M
+rounds-spec =
+    tie.close
+    (tie.spec
+    Inv-loop
+    μ-loop
+    slice-aggregate-output
+    loop-holds
+    round-requires
+    add-k
+    loop-less
+    loop-again
+    next-number-requires
+    same-length
+    same-length-2
+    same-length-3
+    same-length-4
+    returns)
