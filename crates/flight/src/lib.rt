@@ -12,7 +12,9 @@ use serial::ItemId;
 use serial::PacketNumber;
 
 pub mod acked;
+pub mod direct;
 pub mod entry;
+pub mod home;
 pub mod lost;
 pub mod places;
 

@@ -6,6 +6,7 @@ ghost use Rattle.keys.specs.Keys.{firstPlace, twice};
 ghost use Rattle.keys.specs.Exact.{TwiceIsExact};
 
 mod marks;
+pub mod parts;
 
 // The first place of a key, or the column's length where it has none.
 pub fn find(keys: &[u32], key: u16) -> usize

@@ -1,0 +1,86 @@
+// Whether the packets in flight stand at their own places: a number's remainder by the number of places. A table in use
+// nearly always shows it, since its numbers are among the last as there are places. It takes no division and few branches,
+// and then a number is found without a walk.
+ghost use mathlib.Core.Path.{_≡_};
+ghost use mathlib.Core.Bool.{true};
+ghost use Prim.Native.Nat.{ℕ, _+_, _%_, _≤_, _<_};
+ghost use lib.ListN.{length, getD};
+ghost use Rattle.flight.specs.AtHome.{AtHome, PlaceHome};
+ghost use Rattle.flight.specs.Entry.{lengthOf};
+use serial::PacketNumber;
+
+// Each number is at home and no length is over its slot: not 13. A `false` says nothing. `next` is the number that is
+// sent next: it makes the answer quick, not right. Requires sizes in range.
+pub fn is_home(number: &[u32], records: &[u64], room: usize, next: PacketNumber) -> bool
+    requires { ⌜ (1 ≤ length (now number)) × (length (now number) ≤ 256) × (length (now number) ≤ length (now records)) × (room ≤ 16384) ⌝ }
+    ensures { λ r. ⌜ (r ≡ true → AtHome room (now (number .entry)) (now (records .entry))) ⌝ }
+{
+    let n = number.len();
+    let lap = next.0 - next.0 % (n as u16);
+    let last = serial::distance(lap, n as u16);
+    if !is_multiple(lap, n) {
+        return false;
+    }
+    if !is_multiple(last, n) {
+        return false;
+    }
+    are_parts_home(number, records, room, lap, last)
+}
+
+fn is_multiple(number: u16, of: usize) -> bool
+    requires { ⌜ 1 ≤ of ⌝ }
+    ensures { λ r. ⌜ (r ≡ true → number % of ≡ 0) ⌝ }
+{
+    number as usize % of == 0
+}
+
+// Each number is its place added to one of two numbers, and no length is over its slot. Parts only: a table that is no
+// multiple of them is not looked at to its end.
+fn are_parts_home(number: &[u32], records: &[u64], room: usize, lap: u16, last: u16) -> bool
+    requires { ⌜ (length (now number) ≤ 256) × (length (now number) ≤ length (now records)) × (room ≤ 16384) ⌝ }
+    ensures { λ r. ⌜ (r ≡ true → (j : ℕ) → j < length (now (number .entry)) → PlaceHome room lap last (now (number .entry)) (now (records .entry)) j) ⌝ }
+{
+    let mut at: usize = 0;
+    while at + keys::parts::PART <= number.len() {
+        if !is_part_home(number, records, room, at, lap as u32, last as u32) {
+            return false;
+        }
+        at += keys::parts::PART;
+    }
+    at == number.len()
+}
+
+// Of one part. Requires it.
+fn is_part_home(
+    number: &[u32],
+    records: &[u64],
+    room: usize,
+    at: usize,
+    lap: u32,
+    last: u32,
+) -> bool
+    requires { ⌜ (at + 32 ≤ length (now number)) × (at + 32 ≤ length (now records)) × (at < 256) × (room ≤ 16384) × (lap < 65536) × (last < 65536) ⌝ }
+    ensures { λ r. ⌜ (r ≡ true → (k : ℕ) → k < 32 → PlaceHome room lap last (now (number .entry)) (now (records .entry)) (at + k)) ⌝ }
+{
+    if keys::parts::none_in(number, at) {
+        return true;
+    }
+    if keys::parts::in_step(number, at, lap, last) {
+        return do_fit(records, at, room);
+    }
+    false
+}
+
+// No length in the part is over its slot: not even that of which each bit is set that any has.
+fn do_fit(records: &[u64], at: usize, room: usize) -> bool
+    requires { ⌜ (at + 32 ≤ length (now records)) × (room ≤ 16384) ⌝ }
+    ensures { λ r. ⌜ (r ≡ true → (k : ℕ) → k < 32 → lengthOf (getD (now (records .entry)) (at + k) 0) ≤ room) ⌝ }
+{
+    let mut all: u64 = 0;
+    let mut k: usize = 0;
+    while k < keys::parts::PART {
+        all = all | records[at + k];
+        k += 1;
+    }
+    all < (room as u64 + 1) * 4294967296
+}

@@ -1,0 +1,18 @@
+-- Each way out is a case.
+use borrow.Author.Needs.{needs}
+use Rattle.keys.proofs.parts.unless.Statement.{statement}
+use Rattle.keys.proofs.parts.unless.Tie as tie
+use mathlib.Core.Logic.{inl, inr}
+use native.Mathlib.Omega.{arith}
+
+returns : tie.Need-returns
+returns c = λ h k. inl (c .if1 .taken)
+
+returns-2 : tie.Need-returns-2
+returns-2 c = λ h k. inr (c .if2 .taken)
+
+returns-3 : tie.Need-returns-3
+returns-3 c = λ h k. absurd (omega arith)
+
+pub unless-spec : {M : Type 1} → statement M
+unless-spec = tie.close (tie.spec returns returns-2 returns-3)
