@@ -18,6 +18,7 @@ use terms::Refusal;
 use terms::Sizes;
 
 pub mod gate;
+mod home;
 pub mod steps;
 
 // The small counters of an end.
@@ -102,11 +103,21 @@ pub fn process_incoming(
     if !gate::is_lent(sizes, received, number, records, bytes) {
         return Processed::Refused(Refusal::BadStorage);
     }
-    if !gate::is_sound(sizes, received, number, records) {
+    let next = state.sequence_number;
+    let at_home = home::is_home(sizes, next, number, records);
+    if !home::is_sound(sizes, received, number, records, at_home) {
         return Processed::Refused(Refusal::BadState);
     }
     let n = sizes.packets_in_flight;
-    Processed::Done(steps::incoming(state, received, &mut number[..n], packet, acked, field))
+    Processed::Done(steps::incoming_knowing(
+        state,
+        received,
+        &mut number[..n],
+        packet,
+        acked,
+        field,
+        at_home,
+    ))
 }
 
 // A reliable packet is sent: what is kept of it, and its payload. It has the number `local_sequence_num`.
@@ -128,7 +139,9 @@ pub fn process_outgoing(
     if !gate::is_lent(sizes, received, number, records, bytes) {
         return Processed::Refused(Refusal::BadStorage);
     }
-    if !gate::is_sound(sizes, received, number, records) {
+    let next = state.sequence_number;
+    let at_home = home::is_home(sizes, next, number, records);
+    if !home::is_sound(sizes, received, number, records, at_home) {
         return Processed::Refused(Refusal::BadState);
     }
     if gate::is_too_long(sizes, sent, payload.len()) {
@@ -139,7 +152,7 @@ pub fn process_outgoing(
     }
     let n = sizes.packets_in_flight;
     let packet = state.sequence_number;
-    let at = flight::places::place(&number[..n], packet);
+    let at = flight::direct::place(&number[..n], packet, at_home);
     if at == n {
         return Processed::Refused(Refusal::Full);
     }
@@ -170,7 +183,9 @@ pub fn dropped_packets(
     if output.len() < room + 17 {
         return DroppedPackets::Refused(Refusal::BadStorage);
     }
-    if !gate::is_sound(sizes, received, number, records) {
+    let next = state.sequence_number;
+    let at_home = home::is_home(sizes, next, number, records);
+    if !home::is_sound(sizes, received, number, records, at_home) {
         return DroppedPackets::Refused(Refusal::BadState);
     }
     let n = sizes.packets_in_flight;

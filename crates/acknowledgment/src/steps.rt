@@ -1,8 +1,10 @@
 // What a call does once nothing is refused.
 ghost use mathlib.Core.Path.{_≡_};
+ghost use mathlib.Core.Bool.{true};
 ghost use mathlib.Core.List.{map};
 ghost use Prim.Native.Nat.{_≤_};
 ghost use lib.ListN.{length};
+ghost use Rattle.keys.specs.Home.{Home};
 ghost use Rattle.sequence_buffer.specs.Buffer.{emptied};
 ghost use Rattle.received.specs.Record.{slotCount, recorded};
 ghost use Rattle.flight.specs.Acked.{isAcked};
@@ -25,11 +27,29 @@ pub fn incoming(
     ensures { λ _. ⌜ now (received .exit) ≡ recorded (state .received .0) (now (received .entry)) (packet .0) ⌝ }
     ensures { λ _. ⌜ now (number .exit) ≡ map (emptied (isAcked (acked .0) field)) (now (number .entry)) ⌝ }
 {
+    incoming_knowing(state, received, number, packet, acked, field, false)
+}
+
+// The same, knowing whether the packets in flight are at home.
+pub fn incoming_knowing(
+    state: Acknowledgment,
+    received: &mut [u32],
+    number: &mut [u32],
+    packet: PacketNumber,
+    acked: PacketNumber,
+    field: u32,
+    at_home: bool,
+) -> Acknowledgment
+    requires { ⌜ (slotCount ≤ length (now received)) × («at_home» ≡ true → (1 ≤ length (now number)) × Home (now number)) ⌝ }
+    ensures { λ r. ⌜ r ≡ heard state (now (received .entry)) (packet .0) (acked .0) ⌝ }
+    ensures { λ _. ⌜ now (received .exit) ≡ recorded (state .received .0) (now (received .entry)) (packet .0) ⌝ }
+    ensures { λ _. ⌜ now (number .exit) ≡ map (emptied (isAcked (acked .0) field)) (now (number .entry)) ⌝ }
+{
     let sequence_number = state.sequence_number;
     let before = state.remote_ack_sequence_num;
     let inserted = received::receive(state.received, received, packet);
     let sequence_num = inserted.sequence_num;
-    flight::acked::remove(number, acked, field);
+    flight::direct::remove(number, acked, field, at_home);
     Acknowledgment {
         sequence_number,
         remote_ack_sequence_num: newer(acked, before),

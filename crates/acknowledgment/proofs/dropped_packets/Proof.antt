@@ -37,24 +37,24 @@ lengths c = lent-means (c .before .before .before .before .before .before .befor
 sizes : (c : tie.Else1) → InRange (c .before .before .before .before .before .before .before .args .sizes)
 sizes c = in-range-means (c .before .before .before .before .before .before .before .args .sizes) (in-range c)
 
-sound : (c : tie.Else4) → isSound (c .before .before .before .before .before .before .before .before .before .before .before .before .before .before .before .args .sizes) (end (c .before .before .before .before .before .before .before .before .before .before .before .before .before .before .before)) ≡ true
+sound : (c : tie.Else4) → isSound (c .before .before .before .before .before .before .before .before .before .before .before .before .before .before .before .before .before .before .args .sizes) (end (c .before .before .before .before .before .before .before .before .before .before .before .before .before .before .before .before .before .before)) ≡ true
 sound c = sym (c .before .is-sound .ensures) ∙ on (c .before .is-sound .result) (c .if4 .left)
 
 whole : (c : tie.Else2) → length (tableOf (c .before .before .before .before .before .before .before .before .before .before .args .sizes) (now (c .before .before .before .before .before .before .before .before .before .before .args .number))) ≡ c .before .before .before .before .before .before .before .before .before .before .args .sizes .«packets_in_flight»
 whole c = length-take-le (c .before .before .before .before .before .before .before .before .before .before .args .sizes .«packets_in_flight») (now (c .before .before .before .before .before .before .before .before .before .before .args .number)) (lengths c .numbers)
 
-table : (c : tie.Else4) → Table (slotOf (c .before .before .before .before .before .before .before .before .before .before .before .before .before .before .before .args .sizes)) (tableOf (c .before .before .before .before .before .before .before .before .before .before .before .before .before .before .before .args .sizes) (now (c .before .before .before .before .before .before .before .before .before .before .before .before .before .before .before .args .number))) (now (c .before .before .before .before .before .before .before .before .before .before .before .before .before .before .before .args .records)) (now (c .before .before .before .before .before .before .before .before .before .before .before .before .before .before .before .args .bytes))
+table : (c : tie.Else4) → Table (slotOf (c .before .before .before .before .before .before .before .before .before .before .before .before .before .before .before .before .before .before .args .sizes)) (tableOf (c .before .before .before .before .before .before .before .before .before .before .before .before .before .before .before .before .before .before .args .sizes) (now (c .before .before .before .before .before .before .before .before .before .before .before .before .before .before .before .before .before .before .args .number))) (now (c .before .before .before .before .before .before .before .before .before .before .before .before .before .before .before .before .before .before .args .records)) (now (c .before .before .before .before .before .before .before .before .before .before .before .before .before .before .before .before .before .before .args .bytes))
 table c =
-    let z = c .before .before .before .before .before .before .before .before .before .before .before .before .before .before .before .args .sizes in
-    let l = lengths (c .before .before .before .before .before) in
-    let w = whole (c .before .before .before .before .before) in
-    let r = sizes (c .before .before .before .before .before .before .before .before) in
+    let z = c .before .before .before .before .before .before .before .before .before .before .before .before .before .before .before .before .before .before .args .sizes in
+    let l = lengths (c .before .before .before .before .before .before .before .before) in
+    let w = whole (c .before .before .before .before .before .before .before .before) in
+    let r = sizes (c .before .before .before .before .before .before .before .before .before .before .before) in
     record {
       small = omega (arith, r .f);
       few = omega (arith, r .n, w);
       recorded = omega (arith, w, l .recorded);
       slots = rw w (l .room);
-      fits = sound-means z (now (c .before .before .before .before .before .before .before .before .before .before .before .before .before .before .before .args .received)) (now (c .before .before .before .before .before .before .before .before .before .before .before .before .before .before .before .args .number)) (now (c .before .before .before .before .before .before .before .before .before .before .before .before .before .before .before .args .records)) (sound c) .fits;
+      fits = sound-means z (now (c .before .before .before .before .before .before .before .before .before .before .before .before .before .before .before .before .before .before .args .received)) (now (c .before .before .before .before .before .before .before .before .before .before .before .before .before .before .before .before .before .before .args .number)) (now (c .before .before .before .before .before .before .before .before .before .before .before .before .before .before .before .before .before .before .args .records)) (sound c) .fits;
     }
 
 -- the output is as long as stated: 16 x F + 17
@@ -99,10 +99,15 @@ returns-3 c =
     let small : length (now (c .before .before .before .before .before .before .before .before .before .before .before .before .args .output)) < slotOf (c .before .before .before .before .before .before .before .before .before .before .before .before .args .sizes) + 17 = omega arith in
     not-dropped (c .before .before .before .before .before .before .before .before .before .before .before .before .args .sizes) (end (c .before .before .before .before .before .before .before .before .before .before .before .before)) _ BadStorage (rw (in-range (c .before .before .before .before .before), long (c .before .before), lt-leb _ _ small))
 
+is-home-requires : tie.Need-is-home-requires
+is-home-requires c κs =
+    let l = lengths (c .before .before .before .before) in
+    (in-range (c .before .before .before .before .before .before .before), l .numbers, l .recorded)
+
 is-sound-requires : tie.Need-is-sound-requires
 is-sound-requires c κs =
-    let l = lengths (c .before .before .before) in
-    (in-range (c .before .before .before .before .before .before), l .slots, l .numbers, l .recorded)
+    let l = lengths (c .before .before .before .before .before .before) in
+    (in-range (c .before .before .before .before .before .before .before .before .before), l .slots, l .numbers, l .recorded, c .before .is-home .ensures)
 
 same-length-3 : tie.Need-same-length-3
 same-length-3 c = refl
@@ -110,17 +115,17 @@ same-length-3 c = refl
 returns-4 : tie.Need-returns-4
 unfolding droppedOf
 returns-4 c =
-    let bad : isSound (c .before .before .before .before .before .before .before .before .before .before .before .before .before .before .before .args .sizes) (end (c .before .before .before .before .before .before .before .before .before .before .before .before .before .before .before)) ≡ false = sym (c .before .is-sound .ensures) ∙ off (c .before .is-sound .result) (c .if4 .taken) in
-    not-dropped (c .before .before .before .before .before .before .before .before .before .before .before .before .before .before .before .args .sizes) (end (c .before .before .before .before .before .before .before .before .before .before .before .before .before .before .before)) _ BadState (rw (in-range (c .before .before .before .before .before .before .before .before), long (c .before .before .before .before .before), roomy (c .before .before .before), bad))
+    let bad : isSound (c .before .before .before .before .before .before .before .before .before .before .before .before .before .before .before .before .before .before .args .sizes) (end (c .before .before .before .before .before .before .before .before .before .before .before .before .before .before .before .before .before .before)) ≡ false = sym (c .before .is-sound .ensures) ∙ off (c .before .is-sound .result) (c .if4 .taken) in
+    not-dropped (c .before .before .before .before .before .before .before .before .before .before .before .before .before .before .before .before .before .before .args .sizes) (end (c .before .before .before .before .before .before .before .before .before .before .before .before .before .before .before .before .before .before)) _ BadState (rw (in-range (c .before .before .before .before .before .before .before .before .before .before .before), long (c .before .before .before .before .before .before .before .before), roomy (c .before .before .before .before .before .before), bad))
 
 slice-relend-prefix-drop-one : tie.Need-slice-relend-prefix-drop-one
-slice-relend-prefix-drop-one c = lengths (c .before .before .before .before .before .before) .numbers
+slice-relend-prefix-drop-one c = lengths (c .before .before .before .before .before .before .before .before .before) .numbers
 
 slice-aggregate-drop-one : tie.Need-slice-aggregate-drop-one
-slice-aggregate-drop-one c = omega (arith, whole (c .before .before .before .before .before .before .before))
+slice-aggregate-drop-one c = omega (arith, whole (c .before .before .before .before .before .before .before .before .before .before))
 
 drop-one-requires : tie.Need-drop-one-requires
-drop-one-requires c κs = (table (c .before .before .before), omega (arith, c .before .before .before .before .before .before .if3 .left))
+drop-one-requires c κs = (table (c .before .before .before), omega (arith, c .before .before .before .before .before .before .before .before .before .if3 .left))
 
 answered-requires : tie.Need-answered-requires
 answered-requires c κs = search needs
@@ -135,12 +140,12 @@ returns-5 : tie.Need-returns-5
 unfolding droppedOf
 returns-5 c =
     let done = c .before .before .before .before .before .drop-one .ensures in
-    let z = c .before .before .before .before .before .before .before .before .before .before .before .before .before .before .before .before .before .before .before .before .before .before .before .before .args .sizes in
-    let d = dropOf (c .before .before .before .before .before .before .before .before .before .before .before .before .before .before .before .before .before .before .before .before .before .before .before .before .args .state .«remote_ack_sequence_num» .0) (tableOf z (now (c .before .before .before .before .before .before .before .before .before .before .before .before .before .before .before .before .before .before .before .before .before .before .before .before .args .number))) (now (c .before .before .before .before .before .before .before .before .before .before .before .before .before .before .before .before .before .before .before .before .before .before .before .before .args .records)) in
+    let z = c .before .before .before .before .before .before .before .before .before .before .before .before .before .before .before .before .before .before .before .before .before .before .before .before .before .before .before .args .sizes in
+    let d = dropOf (c .before .before .before .before .before .before .before .before .before .before .before .before .before .before .before .before .before .before .before .before .before .before .before .before .before .before .before .args .state .«remote_ack_sequence_num» .0) (tableOf z (now (c .before .before .before .before .before .before .before .before .before .before .before .before .before .before .before .before .before .before .before .before .before .before .before .before .before .before .before .args .number))) (now (c .before .before .before .before .before .before .before .before .before .before .before .before .before .before .before .before .before .before .before .before .before .before .before .before .before .before .before .args .records)) in
     record {
-      answer-is = rw (in-range (c .before .before .before .before .before .before .before .before .before .before .before .before .before .before .before .before .before), long (c .before .before .before .before .before .before .before .before .before .before .before .before .before .before), roomy (c .before .before .before .before .before .before .before .before .before .before .before .before), sound (c .before .before .before .before .before .before .before .before .before)) (c .answered .ensures ∙ ap answeredBy (done .0));
-      number-is = rw (in-range (c .before .before .before .before .before .before .before .before .before .before .before .before .before .before .before .before .before), long (c .before .before .before .before .before .before .before .before .before .before .before .before .before .before), roomy (c .before .before .before .before .before .before .before .before .before .before .before .before), sound (c .before .before .before .before .before .before .before .before .before)) (number-left d z (now (c .before .before .before .before .before .before .before .before .before .before .before .before .before .before .before .before .before .before .before .before .before .before .before .before .args .number)) _ (done .1 .0));
-      output-is = rw (in-range (c .before .before .before .before .before .before .before .before .before .before .before .before .before .before .before .before .before), long (c .before .before .before .before .before .before .before .before .before .before .before .before .before .before), roomy (c .before .before .before .before .before .before .before .before .before .before .before .before), sound (c .before .before .before .before .before .before .before .before .before)) (output-left d z (end (c .before .before .before .before .before .before .before .before .before .before .before .before .before .before .before .before .before .before .before .before .before .before .before .before)) (now (c .before .before .before .before .before .before .before .before .before .before .before .before .before .before .before .before .before .before .before .before .before .before .before .before .args .output)) _ (done .1 .1));
+      answer-is = rw (in-range (c .before .before .before .before .before .before .before .before .before .before .before .before .before .before .before .before .before .before .before .before), long (c .before .before .before .before .before .before .before .before .before .before .before .before .before .before .before .before .before), roomy (c .before .before .before .before .before .before .before .before .before .before .before .before .before .before .before), sound (c .before .before .before .before .before .before .before .before .before)) (c .answered .ensures ∙ ap answeredBy (done .0));
+      number-is = rw (in-range (c .before .before .before .before .before .before .before .before .before .before .before .before .before .before .before .before .before .before .before .before), long (c .before .before .before .before .before .before .before .before .before .before .before .before .before .before .before .before .before), roomy (c .before .before .before .before .before .before .before .before .before .before .before .before .before .before .before), sound (c .before .before .before .before .before .before .before .before .before)) (number-left d z (now (c .before .before .before .before .before .before .before .before .before .before .before .before .before .before .before .before .before .before .before .before .before .before .before .before .before .before .before .args .number)) _ (done .1 .0));
+      output-is = rw (in-range (c .before .before .before .before .before .before .before .before .before .before .before .before .before .before .before .before .before .before .before .before), long (c .before .before .before .before .before .before .before .before .before .before .before .before .before .before .before .before .before), roomy (c .before .before .before .before .before .before .before .before .before .before .before .before .before .before .before), sound (c .before .before .before .before .before .before .before .before .before)) (output-left d z (end (c .before .before .before .before .before .before .before .before .before .before .before .before .before .before .before .before .before .before .before .before .before .before .before .before .before .before .before)) (now (c .before .before .before .before .before .before .before .before .before .before .before .before .before .before .before .before .before .before .before .before .before .before .before .before .before .before .before .args .output)) _ (done .1 .1));
     }
 
 pub dropped-packets-spec : {M : Type 1} → statement M
@@ -156,6 +161,7 @@ dropped-packets-spec =
     add-if3
     same-length-2
     returns-3
+    is-home-requires
     is-sound-requires
     same-length-3
     returns-4

@@ -12,6 +12,7 @@ use lib.Seq.{length-take-le}
 use denote.Ref.{now}
 use Rattle.laws.proofs.Cases.{on, off}
 use Rattle.terms.specs.Sizes.{inRange}
+use Rattle.terms.proofs.Ranges.{in-range-means}
 use Rattle.terms.specs.declared.Refusal.the-variants.{BadSizes, BadStorage, BadState}
 use Rattle.acknowledgment.specs.State.{State, lending, tableOf}
 use Rattle.acknowledgment.proofs.Gates.{Lent, lent-means}
@@ -30,7 +31,7 @@ long c = sym (c .before .is-lent .ensures) ∙ on (c .before .is-lent .result) (
 lengths : (c : tie.Else2) → Lent (c .before .before .before .before .before .before .before .before .before .before .args .sizes) (now (c .before .before .before .before .before .before .before .before .before .before .args .received)) (now (c .before .before .before .before .before .before .before .before .before .before .args .number)) (now (c .before .before .before .before .before .before .before .before .before .before .args .records)) (now (c .before .before .before .before .before .before .before .before .before .before .args .bytes))
 lengths c = lent-means (c .before .before .before .before .before .before .before .before .before .before .args .sizes) (now (c .before .before .before .before .before .before .before .before .before .before .args .received)) (now (c .before .before .before .before .before .before .before .before .before .before .args .number)) (now (c .before .before .before .before .before .before .before .before .before .before .args .records)) (now (c .before .before .before .before .before .before .before .before .before .before .args .bytes)) (long c)
 
-sound : (c : tie.Else3) → isSound (c .before .before .before .before .before .before .before .before .before .before .before .before .before .before .args .sizes) (end (c .before .before .before .before .before .before .before .before .before .before .before .before .before .before)) ≡ true
+sound : (c : tie.Else3) → isSound (c .before .before .before .before .before .before .before .before .before .before .before .before .before .before .before .before .before .args .sizes) (end (c .before .before .before .before .before .before .before .before .before .before .before .before .before .before .before .before .before)) ≡ true
 sound c = sym (c .before .is-sound .ensures) ∙ on (c .before .is-sound .result) (c .if3 .left)
 
 whole : (c : tie.Else2) → length (tableOf (c .before .before .before .before .before .before .before .before .before .before .args .sizes) (now (c .before .before .before .before .before .before .before .before .before .before .args .number))) ≡ c .before .before .before .before .before .before .before .before .before .before .args .sizes .«packets_in_flight»
@@ -60,10 +61,15 @@ returns-2 c =
     let short : isLent (c .before .before .before .before .before .before .before .before .before .before .args .sizes) (end (c .before .before .before .before .before .before .before .before .before .before)) ≡ false = sym (c .before .is-lent .ensures) ∙ off (c .before .is-lent .result) (c .if2 .taken) in
     not-heard (c .before .before .before .before .before .before .before .before .before .before .args .sizes) (end (c .before .before .before .before .before .before .before .before .before .before)) _ _ _ BadStorage (rw (in-range (c .before .before .before .before), short))
 
+is-home-requires : tie.Need-is-home-requires
+is-home-requires c κs =
+    let l = lengths (c .before .before) in
+    (in-range (c .before .before .before .before .before .before), l .numbers, l .recorded)
+
 is-sound-requires : tie.Need-is-sound-requires
 is-sound-requires c κs =
-    let l = lengths (c .before .before) in
-    (in-range (c .before .before .before .before .before .before), l .slots, l .numbers, l .recorded)
+    let l = lengths (c .before .before .before .before .before) in
+    (in-range (c .before .before .before .before .before .before .before .before .before), l .slots, l .numbers, l .recorded, c .before .before .is-home .ensures)
 
 same-length-3 : tie.Need-same-length-3
 same-length-3 c = refl
@@ -74,17 +80,17 @@ same-length-4 c = refl
 returns-3 : tie.Need-returns-3
 unfolding incomingOf
 returns-3 c =
-    let bad : isSound (c .before .before .before .before .before .before .before .before .before .before .before .before .before .before .args .sizes) (end (c .before .before .before .before .before .before .before .before .before .before .before .before .before .before)) ≡ false = sym (c .before .is-sound .ensures) ∙ off (c .before .is-sound .result) (c .if3 .taken) in
-    not-heard (c .before .before .before .before .before .before .before .before .before .before .before .before .before .before .args .sizes) (end (c .before .before .before .before .before .before .before .before .before .before .before .before .before .before)) _ _ _ BadState (rw (in-range (c .before .before .before .before .before .before .before .before), long (c .before .before .before .before), bad))
+    let bad : isSound (c .before .before .before .before .before .before .before .before .before .before .before .before .before .before .before .before .before .args .sizes) (end (c .before .before .before .before .before .before .before .before .before .before .before .before .before .before .before .before .before)) ≡ false = sym (c .before .is-sound .ensures) ∙ off (c .before .is-sound .result) (c .if3 .taken) in
+    not-heard (c .before .before .before .before .before .before .before .before .before .before .before .before .before .before .before .before .before .args .sizes) (end (c .before .before .before .before .before .before .before .before .before .before .before .before .before .before .before .before .before)) _ _ _ BadState (rw (in-range (c .before .before .before .before .before .before .before .before .before .before .before), long (c .before .before .before .before .before .before .before), bad))
 
-slice-relend-prefix-incoming : tie.Need-slice-relend-prefix-incoming
-slice-relend-prefix-incoming c = lengths (c .before .before .before .before .before) .numbers
+slice-relend-prefix-incoming-knowing : tie.Need-slice-relend-prefix-incoming-knowing
+slice-relend-prefix-incoming-knowing c = lengths (c .before .before .before .before .before .before .before .before) .numbers
 
-slice-aggregate-incoming : tie.Need-slice-aggregate-incoming
-slice-aggregate-incoming c = omega (arith, whole (c .before .before .before .before .before .before))
+slice-aggregate-incoming-knowing : tie.Need-slice-aggregate-incoming-knowing
+slice-aggregate-incoming-knowing c = omega (arith, whole (c .before .before .before .before .before .before .before .before .before))
 
-incoming-requires : tie.Need-incoming-requires
-incoming-requires c κs = lengths (c .before .before .before .before .before .before) .slots
+incoming-knowing-requires : tie.Need-incoming-knowing-requires
+incoming-knowing-requires c κs = (lengths (c .before .before .before .before .before .before .before .before .before) .slots, λ e. (omega (arith, whole (c .before .before .before .before .before .before .before .before .before), in-range-means _ (in-range (c .before .before .before .before .before .before .before .before .before .before .before .before .before)) .n), c .before .before .before .before .before .before .is-home .ensures e .home))
 
 same-length-5 : tie.Need-same-length-5
 same-length-5 c = search needs
@@ -95,12 +101,12 @@ same-length-6 c = search needs
 returns-4 : tie.Need-returns-4
 unfolding incomingOf
 returns-4 c =
-    let done = c .before .before .before .before .incoming .ensures in
-    let n = c .before .before .before .before .before .before .before .before .before .before .before .before .before .before .before .before .before .before .before .before .before .args .sizes .«packets_in_flight» in
+    let done = c .before .before .before .before .incoming-knowing .ensures in
+    let n = c .before .before .before .before .before .before .before .before .before .before .before .before .before .before .before .before .before .before .before .before .before .before .before .before .args .sizes .«packets_in_flight» in
     record {
-      answer-is = rw (in-range (c .before .before .before .before .before .before .before .before .before .before .before .before .before .before .before), long (c .before .before .before .before .before .before .before .before .before .before .before), sound (c .before .before .before .before .before .before .before), done .0);
-      received-is = rw (in-range (c .before .before .before .before .before .before .before .before .before .before .before .before .before .before .before), long (c .before .before .before .before .before .before .before .before .before .before .before), sound (c .before .before .before .before .before .before .before)) (done .1 .0);
-      number-is = rw (in-range (c .before .before .before .before .before .before .before .before .before .before .before .before .before .before .before), long (c .before .before .before .before .before .before .before .before .before .before .before), sound (c .before .before .before .before .before .before .before)) (ap (λ (l : List ℕ). l ++ drop n (now (c .before .before .before .before .before .before .before .before .before .before .before .before .before .before .before .before .before .before .before .before .before .args .number))) (done .1 .1));
+      answer-is = rw (in-range (c .before .before .before .before .before .before .before .before .before .before .before .before .before .before .before .before .before .before), long (c .before .before .before .before .before .before .before .before .before .before .before .before .before .before), sound (c .before .before .before .before .before .before .before), done .0);
+      received-is = rw (in-range (c .before .before .before .before .before .before .before .before .before .before .before .before .before .before .before .before .before .before), long (c .before .before .before .before .before .before .before .before .before .before .before .before .before .before), sound (c .before .before .before .before .before .before .before)) (done .1 .0);
+      number-is = rw (in-range (c .before .before .before .before .before .before .before .before .before .before .before .before .before .before .before .before .before .before), long (c .before .before .before .before .before .before .before .before .before .before .before .before .before .before), sound (c .before .before .before .before .before .before .before)) (ap (λ (l : List ℕ). l ++ drop n (now (c .before .before .before .before .before .before .before .before .before .before .before .before .before .before .before .before .before .before .before .before .before .before .before .before .args .number))) (done .1 .1));
     }
 
 pub process-incoming-spec : {M : Type 1} → statement M
@@ -113,13 +119,14 @@ process-incoming-spec =
     same-length
     same-length-2
     returns-2
+    is-home-requires
     is-sound-requires
     same-length-3
     same-length-4
     returns-3
-    slice-relend-prefix-incoming
-    slice-aggregate-incoming
-    incoming-requires
+    slice-relend-prefix-incoming-knowing
+    slice-aggregate-incoming-knowing
+    incoming-knowing-requires
     same-length-5
     same-length-6
     returns-4)

@@ -37,7 +37,7 @@ long c = sym (c .before .is-lent .ensures) ∙ on (c .before .is-lent .result) (
 lengths : (c : tie.Else2) → Lent (c .before .before .before .before .before .before .before .before .before .before .before .before .args .sizes) (now (c .before .before .before .before .before .before .before .before .before .before .before .before .args .received)) (now (c .before .before .before .before .before .before .before .before .before .before .before .before .args .number)) (now (c .before .before .before .before .before .before .before .before .before .before .before .before .args .records)) (now (c .before .before .before .before .before .before .before .before .before .before .before .before .args .bytes))
 lengths c = lent-means (c .before .before .before .before .before .before .before .before .before .before .before .before .args .sizes) (now (c .before .before .before .before .before .before .before .before .before .before .before .before .args .received)) (now (c .before .before .before .before .before .before .before .before .before .before .before .before .args .number)) (now (c .before .before .before .before .before .before .before .before .before .before .before .before .args .records)) (now (c .before .before .before .before .before .before .before .before .before .before .before .before .args .bytes)) (long c)
 
-sound : (c : tie.Else3) → isSound (c .before .before .before .before .before .before .before .before .before .before .before .before .before .before .before .before .args .sizes) (end (c .before .before .before .before .before .before .before .before .before .before .before .before .before .before .before .before)) ≡ true
+sound : (c : tie.Else3) → isSound (c .before .before .before .before .before .before .before .before .before .before .before .before .before .before .before .before .before .before .before .before .args .sizes) (end (c .before .before .before .before .before .before .before .before .before .before .before .before .before .before .before .before .before .before .before .before)) ≡ true
 sound c = sym (c .before .is-sound .ensures) ∙ on (c .before .is-sound .result) (c .if3 .left)
 
 whole : (c : tie.Else2) → length (tableOf (c .before .before .before .before .before .before .before .before .before .before .before .before .args .sizes) (now (c .before .before .before .before .before .before .before .before .before .before .before .before .args .number))) ≡ c .before .before .before .before .before .before .before .before .before .before .before .before .args .sizes .«packets_in_flight»
@@ -46,24 +46,24 @@ whole c = length-take-le (c .before .before .before .before .before .before .bef
 sizes : (c : tie.Else1) → InRange (c .before .before .before .before .before .before .before .args .sizes)
 sizes c = in-range-means (c .before .before .before .before .before .before .before .args .sizes) (in-range c)
 
-short : (c : tie.Else4) → tooLong (c .before .before .before .before .before .before .before .before .before .before .before .before .before .before .before .before .before .before .args .sizes) (c .before .before .before .before .before .before .before .before .before .before .before .before .before .before .before .before .before .before .args .sent) (length (now (c .before .before .before .before .before .before .before .before .before .before .before .before .before .before .before .before .before .before .args .payload))) ≡ false
+short : (c : tie.Else4) → tooLong (c .before .before .before .before .before .before .before .before .before .before .before .before .before .before .before .before .before .before .before .before .before .before .args .sizes) (c .before .before .before .before .before .before .before .before .before .before .before .before .before .before .before .before .before .before .before .before .before .before .args .sent) (length (now (c .before .before .before .before .before .before .before .before .before .before .before .before .before .before .before .before .before .before .before .before .before .before .args .payload))) ≡ false
 short c = sym (c .before .is-too-long .ensures) ∙ c .if4 .left
 
-few : (c : tie.Else5) → ltb (c .before .before .before .before .before .before .before .before .before .before .before .before .before .before .before .before .before .before .before .before .args .sizes .«max_fragments» * c .before .before .before .before .before .before .before .before .before .before .before .before .before .before .before .before .before .before .before .before .args .sizes .«fragment_size») (length (now (c .before .before .before .before .before .before .before .before .before .before .before .before .before .before .before .before .before .before .before .before .args .payload))) ≡ false
+few : (c : tie.Else5) → ltb (c .before .before .before .before .before .before .before .before .before .before .before .before .before .before .before .before .before .before .before .before .before .before .before .before .args .sizes .«max_fragments» * c .before .before .before .before .before .before .before .before .before .before .before .before .before .before .before .before .before .before .before .before .before .before .before .before .args .sizes .«fragment_size») (length (now (c .before .before .before .before .before .before .before .before .before .before .before .before .before .before .before .before .before .before .before .before .before .before .before .before .args .payload))) ≡ false
 few c = le-ltb _ _ (c .if5 .left)
 
 some : (c : tie.Else2) → 1 ≤ length (tableOf (c .before .before .before .before .before .before .before .before .before .before .before .before .args .sizes) (now (c .before .before .before .before .before .before .before .before .before .before .before .before .args .number)))
 some c = omega (arith, whole c, sizes (c .before .before .before .before .before) .n .0)
 
-within : (c : tie.Else6) → c .before .place .result < c .before .before .before .before .before .before .before .before .before .before .before .before .before .before .before .before .before .before .before .before .before .before .before .before .args .sizes .«packets_in_flight»
+within : (c : tie.Else6) → c .before .place .result < c .before .before .before .before .before .before .before .before .before .before .before .before .before .before .before .before .before .before .before .before .before .before .before .before .before .before .before .before .args .sizes .«packets_in_flight»
 within c =
-    let le = place-le (c .before .before .before .before .before .before .before .before .before .before .before .before .before .before .before .before .before .before .before .before .before .before .before .before .args .state .«sequence_number» .0) (tableOf (c .before .before .before .before .before .before .before .before .before .before .before .before .before .before .before .before .before .before .before .before .before .before .before .before .args .sizes) (now (c .before .before .before .before .before .before .before .before .before .before .before .before .before .before .before .before .before .before .before .before .before .before .before .before .args .number))) (some (c .before .before .before .before .before .before .before .before .before .before .before .before)) in
-    omega (arith, c .if6 .left, le, c .before .place .ensures, whole (c .before .before .before .before .before .before .before .before .before .before .before .before))
+    let le = place-le (c .before .before .before .before .before .before .before .before .before .before .before .before .before .before .before .before .before .before .before .before .before .before .before .before .before .before .before .before .args .state .«sequence_number» .0) (tableOf (c .before .before .before .before .before .before .before .before .before .before .before .before .before .before .before .before .before .before .before .before .before .before .before .before .before .before .before .before .args .sizes) (now (c .before .before .before .before .before .before .before .before .before .before .before .before .before .before .before .before .before .before .before .before .before .before .before .before .before .before .before .before .args .number))) (some (c .before .before .before .before .before .before .before .before .before .before .before .before .before .before .before .before)) in
+    omega (arith, c .if6 .left, le, c .before .place .ensures, whole (c .before .before .before .before .before .before .before .before .before .before .before .before .before .before .before .before))
 
-fullness : (c : tie.After-place) → full (c .before .before .before .before .before .before .before .before .before .before .before .before .before .before .before .before .before .before .before .before .before .before .before .args .state .«sequence_number» .0) (tableOf (c .before .before .before .before .before .before .before .before .before .before .before .before .before .before .before .before .before .before .before .before .before .before .before .args .sizes) (now (c .before .before .before .before .before .before .before .before .before .before .before .before .before .before .before .before .before .before .before .before .before .before .before .args .number))) ≡ eqb (c .place .result) (c .before .before .before .before .before .before .before .before .before .before .before .before .before .before .before .before .before .before .before .before .before .before .before .args .sizes .«packets_in_flight»)
+fullness : (c : tie.After-place) → full (c .before .before .before .before .before .before .before .before .before .before .before .before .before .before .before .before .before .before .before .before .before .before .before .before .before .before .before .args .state .«sequence_number» .0) (tableOf (c .before .before .before .before .before .before .before .before .before .before .before .before .before .before .before .before .before .before .before .before .before .before .before .before .before .before .before .args .sizes) (now (c .before .before .before .before .before .before .before .before .before .before .before .before .before .before .before .before .before .before .before .before .before .before .before .before .before .before .before .args .number))) ≡ eqb (c .place .result) (c .before .before .before .before .before .before .before .before .before .before .before .before .before .before .before .before .before .before .before .before .before .before .before .before .before .before .before .args .sizes .«packets_in_flight»)
 fullness c =
-    full-place (c .before .before .before .before .before .before .before .before .before .before .before .before .before .before .before .before .before .before .before .before .before .before .before .args .state .«sequence_number» .0) (tableOf (c .before .before .before .before .before .before .before .before .before .before .before .before .before .before .before .before .before .before .before .before .before .before .before .args .sizes) (now (c .before .before .before .before .before .before .before .before .before .before .before .before .before .before .before .before .before .before .before .before .before .before .before .args .number))) (some (c .before .before .before .before .before .before .before .before .before .before .before))
-    ∙ rw (← c .place .ensures, whole (c .before .before .before .before .before .before .before .before .before .before .before))
+    full-place (c .before .before .before .before .before .before .before .before .before .before .before .before .before .before .before .before .before .before .before .before .before .before .before .before .before .before .before .args .state .«sequence_number» .0) (tableOf (c .before .before .before .before .before .before .before .before .before .before .before .before .before .before .before .before .before .before .before .before .before .before .before .before .before .before .before .args .sizes) (now (c .before .before .before .before .before .before .before .before .before .before .before .before .before .before .before .before .before .before .before .before .before .before .before .before .before .before .before .args .number))) (some (c .before .before .before .before .before .before .before .before .before .before .before .before .before .before .before))
+    ∙ rw (← c .place .ensures, whole (c .before .before .before .before .before .before .before .before .before .before .before .before .before .before .before))
 
 in-range-requires : tie.Need-in-range-requires
 in-range-requires c κs = search needs
@@ -92,10 +92,15 @@ returns-2 c =
     let short : isLent (c .before .before .before .before .before .before .before .before .before .before .before .before .args .sizes) (end (c .before .before .before .before .before .before .before .before .before .before .before .before)) ≡ false = sym (c .before .is-lent .ensures) ∙ off (c .before .is-lent .result) (c .if2 .taken) in
     not-sent (c .before .before .before .before .before .before .before .before .before .before .before .before .args .sizes) (end (c .before .before .before .before .before .before .before .before .before .before .before .before)) _ _ BadStorage (rw (in-range (c .before .before .before .before .before), short))
 
+is-home-requires : tie.Need-is-home-requires
+is-home-requires c κs =
+    let l = lengths (c .before .before .before) in
+    (in-range (c .before .before .before .before .before .before .before .before), l .numbers, l .recorded)
+
 is-sound-requires : tie.Need-is-sound-requires
 is-sound-requires c κs =
-    let l = lengths (c .before .before) in
-    (in-range (c .before .before .before .before .before .before .before), l .slots, l .numbers, l .recorded)
+    let l = lengths (c .before .before .before .before .before .before) in
+    (in-range (c .before .before .before .before .before .before .before .before .before .before .before), l .slots, l .numbers, l .recorded, c .before .before .is-home .ensures)
 
 same-length-4 : tie.Need-same-length-4
 same-length-4 c = refl
@@ -109,8 +114,8 @@ same-length-6 c = refl
 returns-3 : tie.Need-returns-3
 unfolding outgoingOf
 returns-3 c =
-    let bad : isSound (c .before .before .before .before .before .before .before .before .before .before .before .before .before .before .before .before .args .sizes) (end (c .before .before .before .before .before .before .before .before .before .before .before .before .before .before .before .before)) ≡ false = sym (c .before .is-sound .ensures) ∙ off (c .before .is-sound .result) (c .if3 .taken) in
-    not-sent (c .before .before .before .before .before .before .before .before .before .before .before .before .before .before .before .before .args .sizes) (end (c .before .before .before .before .before .before .before .before .before .before .before .before .before .before .before .before)) _ _ BadState (rw (in-range (c .before .before .before .before .before .before .before .before .before), long (c .before .before .before .before), bad))
+    let bad : isSound (c .before .before .before .before .before .before .before .before .before .before .before .before .before .before .before .before .before .before .before .before .args .sizes) (end (c .before .before .before .before .before .before .before .before .before .before .before .before .before .before .before .before .before .before .before .before)) ≡ false = sym (c .before .is-sound .ensures) ∙ off (c .before .is-sound .result) (c .if3 .taken) in
+    not-sent (c .before .before .before .before .before .before .before .before .before .before .before .before .before .before .before .before .before .before .before .before .args .sizes) (end (c .before .before .before .before .before .before .before .before .before .before .before .before .before .before .before .before .before .before .before .before)) _ _ BadState (rw (in-range (c .before .before .before .before .before .before .before .before .before .before .before .before .before), long (c .before .before .before .before .before .before .before .before), bad))
 
 is-too-long-requires : tie.Need-is-too-long-requires
 is-too-long-requires c κs = search needs
@@ -128,12 +133,12 @@ returns-4 : tie.Need-returns-4
 unfolding outgoingOf
 returns-4 c =
     let over = sym (c .before .is-too-long .ensures) ∙ c .if4 .taken in
-    not-sent (c .before .before .before .before .before .before .before .before .before .before .before .before .before .before .before .before .before .before .args .sizes) (end (c .before .before .before .before .before .before .before .before .before .before .before .before .before .before .before .before .before .before)) _ (now (c .before .before .before .before .before .before .before .before .before .before .before .before .before .before .before .before .before .before .args .payload)) TooLong (rw (in-range (c .before .before .before .before .before .before .before .before .before .before .before), long (c .before .before .before .before .before .before), sound (c .before .before), over))
+    not-sent (c .before .before .before .before .before .before .before .before .before .before .before .before .before .before .before .before .before .before .before .before .before .before .args .sizes) (end (c .before .before .before .before .before .before .before .before .before .before .before .before .before .before .before .before .before .before .before .before .before .before)) _ (now (c .before .before .before .before .before .before .before .before .before .before .before .before .before .before .before .before .before .before .before .before .before .before .args .payload)) TooLong (rw (in-range (c .before .before .before .before .before .before .before .before .before .before .before .before .before .before .before), long (c .before .before .before .before .before .before .before .before .before .before), sound (c .before .before), over))
 
 mul-if5 : tie.Need-mul-if5
 mul-if5 c =
-    let z = c .before .before .before .before .before .before .before .before .before .before .before .before .before .before .before .before .before .before .before .args .sizes in
-    let h = sizes (c .before .before .before .before .before .before .before .before .before .before .before .before) in
+    let z = c .before .before .before .before .before .before .before .before .before .before .before .before .before .before .before .before .before .before .before .before .before .before .before .args .sizes in
+    let h = sizes (c .before .before .before .before .before .before .before .before .before .before .before .before .before .before .before .before) in
     record { fits = omega (arith, mul-le-mul {n₁ = z .«max_fragments»} {m₁ = z .«fragment_size»} {n₂ = 16} {m₂ = 1024} (h .m .1) (h .f .1)) }
 
 same-length-10 : tie.Need-same-length-10
@@ -147,16 +152,16 @@ same-length-12 c = refl
 
 returns-5 : tie.Need-returns-5
 unfolding outgoingOf
-returns-5 c = not-sent (c .before .before .before .before .before .before .before .before .before .before .before .before .before .before .before .before .before .before .before .before .args .sizes) (end (c .before .before .before .before .before .before .before .before .before .before .before .before .before .before .before .before .before .before .before .before)) _ (now (c .before .before .before .before .before .before .before .before .before .before .before .before .before .before .before .before .before .before .before .before .args .payload)) ExceededMaxFragments (rw (in-range (c .before .before .before .before .before .before .before .before .before .before .before .before .before), long (c .before .before .before .before .before .before .before .before), sound (c .before .before .before .before), short (c .before .before), lt-ltb _ _ (c .if5 .taken)))
+returns-5 c = not-sent (c .before .before .before .before .before .before .before .before .before .before .before .before .before .before .before .before .before .before .before .before .before .before .before .before .args .sizes) (end (c .before .before .before .before .before .before .before .before .before .before .before .before .before .before .before .before .before .before .before .before .before .before .before .before)) _ (now (c .before .before .before .before .before .before .before .before .before .before .before .before .before .before .before .before .before .before .before .before .before .before .before .before .args .payload)) ExceededMaxFragments (rw (in-range (c .before .before .before .before .before .before .before .before .before .before .before .before .before .before .before .before .before), long (c .before .before .before .before .before .before .before .before .before .before .before .before), sound (c .before .before .before .before), short (c .before .before), lt-ltb _ _ (c .if5 .taken)))
 
 slice-reshare-prefix-place : tie.Need-slice-reshare-prefix-place
-slice-reshare-prefix-place c = lengths (c .before .before .before .before .before .before .before .before .before) .numbers
+slice-reshare-prefix-place c = lengths (c .before .before .before .before .before .before .before .before .before .before .before .before .before) .numbers
 
 slice-aggregate-place : tie.Need-slice-aggregate-place
-slice-aggregate-place c = omega (arith, whole (c .before .before .before .before .before .before .before .before .before .before))
+slice-aggregate-place c = omega (arith, whole (c .before .before .before .before .before .before .before .before .before .before .before .before .before .before))
 
 place-requires : tie.Need-place-requires
-place-requires c κs = some (c .before .before .before .before .before .before .before .before .before .before)
+place-requires c κs = (some (c .before .before .before .before .before .before .before .before .before .before .before .before .before .before), λ e. c .before .before .before .before .before .before .before .before .before .before .is-home .ensures e .home)
 
 same-length-13 : tie.Need-same-length-13
 same-length-13 c = refl
@@ -169,18 +174,18 @@ same-length-15 c = refl
 
 returns-6 : tie.Need-returns-6
 unfolding outgoingOf
-returns-6 c = not-sent (c .before .before .before .before .before .before .before .before .before .before .before .before .before .before .before .before .before .before .before .before .before .before .before .before .args .sizes) (end (c .before .before .before .before .before .before .before .before .before .before .before .before .before .before .before .before .before .before .before .before .before .before .before .before)) _ (now (c .before .before .before .before .before .before .before .before .before .before .before .before .before .before .before .before .before .before .before .before .before .before .before .before .args .payload)) Full (rw (in-range (c .before .before .before .before .before .before .before .before .before .before .before .before .before .before .before .before .before), long (c .before .before .before .before .before .before .before .before .before .before .before .before), sound (c .before .before .before .before .before .before .before .before), short (c .before .before .before .before .before .before), few (c .before .before .before .before), fullness (c .before), eq-eqb _ _ (c .if6 .taken)))
+returns-6 c = not-sent (c .before .before .before .before .before .before .before .before .before .before .before .before .before .before .before .before .before .before .before .before .before .before .before .before .before .before .before .before .args .sizes) (end (c .before .before .before .before .before .before .before .before .before .before .before .before .before .before .before .before .before .before .before .before .before .before .before .before .before .before .before .before)) _ (now (c .before .before .before .before .before .before .before .before .before .before .before .before .before .before .before .before .before .before .before .before .before .before .before .before .before .before .before .before .args .payload)) Full (rw (in-range (c .before .before .before .before .before .before .before .before .before .before .before .before .before .before .before .before .before .before .before .before .before), long (c .before .before .before .before .before .before .before .before .before .before .before .before .before .before .before .before), sound (c .before .before .before .before .before .before .before .before), short (c .before .before .before .before .before .before), few (c .before .before .before .before), fullness (c .before), eq-eqb _ _ (c .if6 .taken)))
 
 mul-room : tie.Need-mul-room
-mul-room c = let h = sizes (c .before .before .before .before .before .before .before .before .before .before .before .before .before .before .before .before .before .before) in omega (arith, h .f)
+mul-room c = let h = sizes (c .before .before .before .before .before .before .before .before .before .before .before .before .before .before .before .before .before .before .before .before .before .before) in omega (arith, h .f)
 
 store-requires : tie.Need-store-requires
 store-requires c κs =
-    let z = c .before .before .before .before .before .before .before .before .before .before .before .before .before .before .before .before .before .before .before .before .before .before .before .before .before .before .before .before .args .sizes in
-    let l = lengths (c .before .before .before .before .before .before .before .before .before .before .before .before .before .before .before .before) in
+    let z = c .before .before .before .before .before .before .before .before .before .before .before .before .before .before .before .before .before .before .before .before .before .before .before .before .before .before .before .before .before .before .before .before .args .sizes in
+    let l = lengths (c .before .before .before .before .before .before .before .before .before .before .before .before .before .before .before .before .before .before .before .before) in
     let h = within (c .before .before .before .before) in
-    let m = mul-le-mul-right {m = z .«max_fragments»} {n = 16} (z .«fragment_size») (sizes (c .before .before .before .before .before .before .before .before .before .before .before .before .before .before .before .before .before .before .before .before .before) .m .1) in
-    let f = sizes (c .before .before .before .before .before .before .before .before .before .before .before .before .before .before .before .before .before .before .before .before .before) .f in
+    let m = mul-le-mul-right {m = z .«max_fragments»} {n = 16} (z .«fragment_size») (sizes (c .before .before .before .before .before .before .before .before .before .before .before .before .before .before .before .before .before .before .before .before .before .before .before .before .before) .m .1) in
+    let f = sizes (c .before .before .before .before .before .before .before .before .before .before .before .before .before .before .before .before .before .before .before .before .before .before .before .before .before) .f in
     let p = c .before .before .before .before .before .before .before .before .if5 .left in
     (omega (arith, h, l .numbers), omega (arith, h, l .recorded), omega (arith, slot-end (c .before .before .before .before .before .place .result) (z .«packets_in_flight») (slotOf z) h, l .room), omega (arith, m, p), omega (arith, m, p, f))
 
@@ -202,10 +207,10 @@ returns-7 c =
     let done = c .before .before .before .before .before .before .before .store .ensures in
     let here = ap (λ (k : ℕ). k) (c .before .before .before .before .before .before .before .before .before .before .before .before .before .place .ensures) in
     record {
-      answer-is = rw (in-range (c .before .before .before .before .before .before .before .before .before .before .before .before .before .before .before .before .before .before .before .before .before .before .before .before .before .before .before .before .before), long (c .before .before .before .before .before .before .before .before .before .before .before .before .before .before .before .before .before .before .before .before .before .before .before .before), sound (c .before .before .before .before .before .before .before .before .before .before .before .before .before .before .before .before .before .before .before .before), short (c .before .before .before .before .before .before .before .before .before .before .before .before .before .before .before .before .before .before), few (c .before .before .before .before .before .before .before .before .before .before .before .before .before .before .before .before), fullness (c .before .before .before .before .before .before .before .before .before .before .before .before .before), ne-eqb _ _ (c .before .before .before .before .before .before .before .before .before .before .before .before .if6 .left), c .sent .ensures);
-      number-is = rw (in-range (c .before .before .before .before .before .before .before .before .before .before .before .before .before .before .before .before .before .before .before .before .before .before .before .before .before .before .before .before .before), long (c .before .before .before .before .before .before .before .before .before .before .before .before .before .before .before .before .before .before .before .before .before .before .before .before), sound (c .before .before .before .before .before .before .before .before .before .before .before .before .before .before .before .before .before .before .before .before), short (c .before .before .before .before .before .before .before .before .before .before .before .before .before .before .before .before .before .before), few (c .before .before .before .before .before .before .before .before .before .before .before .before .before .before .before .before), fullness (c .before .before .before .before .before .before .before .before .before .before .before .before .before), ne-eqb _ _ (c .before .before .before .before .before .before .before .before .before .before .before .before .if6 .left), ← c .before .before .before .before .before .before .before .before .before .before .before .before .before .place .ensures) (done .0);
-      records-is = rw (in-range (c .before .before .before .before .before .before .before .before .before .before .before .before .before .before .before .before .before .before .before .before .before .before .before .before .before .before .before .before .before), long (c .before .before .before .before .before .before .before .before .before .before .before .before .before .before .before .before .before .before .before .before .before .before .before .before), sound (c .before .before .before .before .before .before .before .before .before .before .before .before .before .before .before .before .before .before .before .before), short (c .before .before .before .before .before .before .before .before .before .before .before .before .before .before .before .before .before .before), few (c .before .before .before .before .before .before .before .before .before .before .before .before .before .before .before .before), fullness (c .before .before .before .before .before .before .before .before .before .before .before .before .before), ne-eqb _ _ (c .before .before .before .before .before .before .before .before .before .before .before .before .if6 .left), ← c .before .before .before .before .before .before .before .before .before .before .before .before .before .place .ensures) (done .1 .0);
-      bytes-is = rw (in-range (c .before .before .before .before .before .before .before .before .before .before .before .before .before .before .before .before .before .before .before .before .before .before .before .before .before .before .before .before .before), long (c .before .before .before .before .before .before .before .before .before .before .before .before .before .before .before .before .before .before .before .before .before .before .before .before), sound (c .before .before .before .before .before .before .before .before .before .before .before .before .before .before .before .before .before .before .before .before), short (c .before .before .before .before .before .before .before .before .before .before .before .before .before .before .before .before .before .before), few (c .before .before .before .before .before .before .before .before .before .before .before .before .before .before .before .before), fullness (c .before .before .before .before .before .before .before .before .before .before .before .before .before), ne-eqb _ _ (c .before .before .before .before .before .before .before .before .before .before .before .before .if6 .left), ← c .before .before .before .before .before .before .before .before .before .before .before .before .before .place .ensures) (done .1 .1);
+      answer-is = rw (in-range (c .before .before .before .before .before .before .before .before .before .before .before .before .before .before .before .before .before .before .before .before .before .before .before .before .before .before .before .before .before .before .before .before .before), long (c .before .before .before .before .before .before .before .before .before .before .before .before .before .before .before .before .before .before .before .before .before .before .before .before .before .before .before .before), sound (c .before .before .before .before .before .before .before .before .before .before .before .before .before .before .before .before .before .before .before .before), short (c .before .before .before .before .before .before .before .before .before .before .before .before .before .before .before .before .before .before), few (c .before .before .before .before .before .before .before .before .before .before .before .before .before .before .before .before), fullness (c .before .before .before .before .before .before .before .before .before .before .before .before .before), ne-eqb _ _ (c .before .before .before .before .before .before .before .before .before .before .before .before .if6 .left), c .sent .ensures);
+      number-is = rw (in-range (c .before .before .before .before .before .before .before .before .before .before .before .before .before .before .before .before .before .before .before .before .before .before .before .before .before .before .before .before .before .before .before .before .before), long (c .before .before .before .before .before .before .before .before .before .before .before .before .before .before .before .before .before .before .before .before .before .before .before .before .before .before .before .before), sound (c .before .before .before .before .before .before .before .before .before .before .before .before .before .before .before .before .before .before .before .before), short (c .before .before .before .before .before .before .before .before .before .before .before .before .before .before .before .before .before .before), few (c .before .before .before .before .before .before .before .before .before .before .before .before .before .before .before .before), fullness (c .before .before .before .before .before .before .before .before .before .before .before .before .before), ne-eqb _ _ (c .before .before .before .before .before .before .before .before .before .before .before .before .if6 .left), ← c .before .before .before .before .before .before .before .before .before .before .before .before .before .place .ensures) (done .0);
+      records-is = rw (in-range (c .before .before .before .before .before .before .before .before .before .before .before .before .before .before .before .before .before .before .before .before .before .before .before .before .before .before .before .before .before .before .before .before .before), long (c .before .before .before .before .before .before .before .before .before .before .before .before .before .before .before .before .before .before .before .before .before .before .before .before .before .before .before .before), sound (c .before .before .before .before .before .before .before .before .before .before .before .before .before .before .before .before .before .before .before .before), short (c .before .before .before .before .before .before .before .before .before .before .before .before .before .before .before .before .before .before), few (c .before .before .before .before .before .before .before .before .before .before .before .before .before .before .before .before), fullness (c .before .before .before .before .before .before .before .before .before .before .before .before .before), ne-eqb _ _ (c .before .before .before .before .before .before .before .before .before .before .before .before .if6 .left), ← c .before .before .before .before .before .before .before .before .before .before .before .before .before .place .ensures) (done .1 .0);
+      bytes-is = rw (in-range (c .before .before .before .before .before .before .before .before .before .before .before .before .before .before .before .before .before .before .before .before .before .before .before .before .before .before .before .before .before .before .before .before .before), long (c .before .before .before .before .before .before .before .before .before .before .before .before .before .before .before .before .before .before .before .before .before .before .before .before .before .before .before .before), sound (c .before .before .before .before .before .before .before .before .before .before .before .before .before .before .before .before .before .before .before .before), short (c .before .before .before .before .before .before .before .before .before .before .before .before .before .before .before .before .before .before), few (c .before .before .before .before .before .before .before .before .before .before .before .before .before .before .before .before), fullness (c .before .before .before .before .before .before .before .before .before .before .before .before .before), ne-eqb _ _ (c .before .before .before .before .before .before .before .before .before .before .before .before .if6 .left), ← c .before .before .before .before .before .before .before .before .before .before .before .before .before .place .ensures) (done .1 .1);
     }
 
 pub process-outgoing-spec : {M : Type 1} → statement M
@@ -219,6 +224,7 @@ process-outgoing-spec =
     same-length-2
     same-length-3
     returns-2
+    is-home-requires
     is-sound-requires
     same-length-4
     same-length-5
