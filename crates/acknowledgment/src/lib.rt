@@ -193,7 +193,8 @@ pub fn dropped_packets(
     answered(flight::lost::drop_one(&mut number[..n], records, bytes, room, remote, output))
 }
 
-fn answered(drop: Drop) -> DroppedPackets
+// For the crates above, beside `flight::lost::drop_one`.
+pub fn answered(drop: Drop) -> DroppedPackets
     ensures { λ r. ⌜ r ≡ answeredBy drop ⌝ }
 {
     match drop {

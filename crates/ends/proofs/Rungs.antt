@@ -10,7 +10,7 @@ use Rattle.reassembly.specs.Gate.{tooShort as partsTooShort, sound as partsSoun
 use Rattle.arranging.specs.Ids.{soundIds}
 use Rattle.arranging.specs.Ordered.{soundAll}
 use Rattle.arranging.specs.Calls.{tooShort as orderedTooShort}
-use Rattle.ends.specs.State.{State, lending, countersOf}
+use Rattle.ends.specs.State.{State, lending, countersOf, freshEnd}
 use Rattle.ends.specs.Gate.{isLent, isSound}
 
 module _ (z : Sizes) (s : State) (output : List ℕ) where
@@ -34,6 +34,12 @@ module _ (z : Sizes) (s : State) (output : List ℕ) where
   pub lent-ordered : AcksLent ≡ true → PartsShort ≡ false → isLent z s output ≡ not OrderedShort
   unfolding isLent
   lent-ordered a b = rw (a, b)
+
+  -- 2 is about no counters
+  pub no-counters : isLent z s output
+      ≡ isLent z (lending freshEnd (s .acks .received) (s .acks .number) (s .acks .records) (s .acks .bytes) (s .parts .slots) (s .parts .entry) (s .parts .header) (s .parts .bytes) (s .ordered .index) (s .ordered .lengths) (s .ordered .bytes)) output
+  unfolding isLent
+  no-counters = refl
 
 module _ (z : Sizes) (s : State) where
   abbrev AcksSound : Bool

@@ -6,7 +6,7 @@ ghost use Prim.Native.Nat.{_≤_};
 ghost use lib.ListN.{length};
 ghost use Rattle.received.specs.Record.{slotCount};
 ghost use Rattle.terms.specs.Sizes.{inRange};
-ghost use Rattle.ends.specs.State.{lending};
+ghost use Rattle.ends.specs.State.{lending, freshEnd};
 ghost use Rattle.ends.specs.Gate.{isLent, isSound, gateOf};
 use crate::End;
 use terms::Gate;
@@ -36,7 +36,6 @@ pub fn check(
     }
     if !is_lent(
         sizes,
-        end,
         received,
         number,
         records,
@@ -68,10 +67,9 @@ pub fn check(
     Gate::Open
 }
 
-// Nothing that is lent is shorter than stated. For the crates above: requires sizes in range.
+// Nothing that is lent is shorter than stated, whatever the counters. For the crates above: requires sizes in range.
 pub fn is_lent(
     sizes: Sizes,
-    end: End,
     received: &[u32],
     number: &[u32],
     records: &[u64],
@@ -86,7 +84,7 @@ pub fn is_lent(
     output: &[u8],
 ) -> bool
     requires { ⌜ inRange sizes ≡ true ⌝ }
-    ensures { λ r. ⌜ r ≡ isLent sizes (lending end (now (received .entry)) (now (number .entry)) (now (records .entry)) (now (payloads .entry)) (now (slots .entry)) (now (entry .entry)) (now (header .entry)) (now (joined .entry)) (now (index .entry)) (now (lengths .entry)) (now (held .entry))) (now (output .entry)) ⌝ }
+    ensures { λ r. ⌜ r ≡ isLent sizes (lending freshEnd (now (received .entry)) (now (number .entry)) (now (records .entry)) (now (payloads .entry)) (now (slots .entry)) (now (entry .entry)) (now (header .entry)) (now (joined .entry)) (now (index .entry)) (now (lengths .entry)) (now (held .entry))) (now (output .entry)) ⌝ }
 {
     if !acknowledgment::gate::is_lent(sizes, received, number, records, payloads) {
         return false;

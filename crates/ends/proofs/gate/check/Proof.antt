@@ -11,7 +11,7 @@ use Rattle.laws.proofs.Cases.{on, off}
 use Rattle.terms.specs.Sizes.{inRange}
 use Rattle.ends.specs.State.{State, lending}
 use Rattle.ends.specs.Gate.{isLent}
-use Rattle.ends.proofs.Rungs.{no-bytes}
+use Rattle.ends.proofs.Rungs.{no-bytes, no-counters}
 use Rattle.ends.proofs.Opened.{stored-means, gate-sizes, gate-storage, gate-state, opens}
 
 abbrev whole : tie.Start → State
@@ -24,7 +24,9 @@ ranged : (c : tie.Else1) → inRange (c .before .before .before .before .before 
 ranged c = sym (c .before .in-range .ensures) ∙ on (c .before .in-range .result) (c .if1 .left)
 
 stored : (c : tie.Else2) → isLent (c .before .before .before .before .before .before .before .before .before .before .before .before .before .before .before .before .args .sizes) (whole (c .before .before .before .before .before .before .before .before .before .before .before .before .before .before .before .before)) (out (c .before .before .before .before .before .before .before .before .before .before .before .before .before .before .before .before)) ≡ true
-stored c = sym (c .before .is-lent .ensures) ∙ on (c .before .is-lent .result) (c .if2 .left)
+stored c =
+    let s = c .before .before .before .before .before .before .before .before .before .before .before .before .before .before .before .before in
+    no-counters (s .args .sizes) (whole s) (out s) ∙ sym (c .before .is-lent .ensures) ∙ on (c .before .is-lent .result) (c .if2 .left)
 
 in-range-requires : tie.Need-in-range-requires
 in-range-requires c κs = search needs
@@ -40,7 +42,7 @@ is-lent-requires c κs = ranged c
 returns-2 : tie.Need-returns-2
 returns-2 c =
     let s = c .before .before .before .before .before .before .before .before .before .before .before .before .before .before .before .before in
-    sym (gate-storage (s .args .sizes) (whole s) (out s) (ranged (c .before .before)) (sym (c .before .is-lent .ensures) ∙ off (c .before .is-lent .result) (c .if2 .taken)))
+    sym (gate-storage (s .args .sizes) (whole s) (out s) (ranged (c .before .before)) (no-counters (s .args .sizes) (whole s) (out s) ∙ sym (c .before .is-lent .ensures) ∙ off (c .before .is-lent .result) (c .if2 .taken)))
 
 is-sound-requires : tie.Need-is-sound-requires
 is-sound-requires c κs =

@@ -10,11 +10,11 @@ use denote.Ref.{now}
 use Rattle.laws.proofs.Cases.{on, off}
 use Rattle.terms.proofs.Ranges.{InRange, in-range-means}
 use Rattle.acknowledgment.specs.Gate.{lent}
-use Rattle.ends.specs.State.{State, lending}
+use Rattle.ends.specs.State.{State, lending, freshEnd}
 use Rattle.ends.proofs.Rungs.{lent-acks, lent-parts, lent-ordered}
 
 abbrev whole : tie.Start → State
-whole c = lending (c .args .end) (now (c .args .received)) (now (c .args .number)) (now (c .args .records)) (now (c .args .payloads)) (now (c .args .slots)) (now (c .args .entry)) (now (c .args .header)) (now (c .args .joined)) (now (c .args .index)) (now (c .args .lengths)) (now (c .args .held))
+whole c = lending freshEnd (now (c .args .received)) (now (c .args .number)) (now (c .args .records)) (now (c .args .payloads)) (now (c .args .slots)) (now (c .args .entry)) (now (c .args .header)) (now (c .args .joined)) (now (c .args .index)) (now (c .args .lengths)) (now (c .args .held))
 
 abbrev out : tie.Start → List ℕ
 out c = now (c .args .output)
