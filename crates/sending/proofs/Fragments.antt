@@ -1,0 +1,111 @@
+-- Which fragments a further call writes. Assumes nothing.
+use mathlib.Core.Path.{_≡_, refl, ap, _∙_}
+use mathlib.Core.Bool.{true, false}
+use mathlib.Core.List.{List, []}
+use Prim.Native.Nat.{ℕ, _+_, _*_, _≤_, _<_}
+use native.Mathlib.Omega.{arith}
+use lib.ListN.{length, getD}
+use borrow.Author.Tests.{lt-ltb, le-ltb}
+use Rattle.terms.specs.declared.Sizes.{Sizes}
+use Rattle.serial.specs.declared.PacketNumber.{PacketNumber}
+use Rattle.acknowledgment.specs.State.{tableOf, slotOf}
+use Rattle.acknowledgment.specs.declared.Acknowledgment.{Acknowledgment}
+use Rattle.flight.specs.Entry.{lengthOf, bytesAt}
+use Rattle.flight.specs.Lost.{Table}
+use Rattle.flight.proofs.Found.{first-at, fits-at}
+use Rattle.splitter.specs.Split.{needed, pieces}
+use Rattle.splitter.proofs.Pieces.{piece-at}
+use Rattle.packet.specs.Table.{follows}
+use Rattle.packet.specs.Read.{misfit}
+use Rattle.packet.specs.Layout.{datagram}
+use Rattle.packet.specs.declared.Headers.{Headers}
+use Rattle.packet.specs.declared.table.Following.the-variants.{Fragment as FragmentFirst}
+use Rattle.sending.specs.Datagrams.{Writable, Writes}
+use Rattle.sending.specs.Further.{placeFor, furtherHeaders, furtherDatagram, hasFurther, furtherOf, furtherOutput}
+use Rattle.sending.specs.declared.further.Further.the-variants.{Datagram, Nothing}
+use Rattle.sending.proofs.Fits.{payload-at-most, take-most}
+
+module _ (z : Sizes) (c : Acknowledgment) (received number records bytes : List ℕ) (n j : ℕ) where
+  abbrev F : ℕ
+  F = z .«fragment_size»
+
+  abbrev N : ℕ
+  N = z .«packets_in_flight»
+
+  abbrev Place : ℕ
+  Place = placeFor z number n
+
+  abbrev Length : ℕ
+  Length = lengthOf (getD records Place 0)
+
+  not-there : N ≤ Place → hasFurther z number records n j ≡ false
+  unfolding hasFurther
+  not-there h = rw (le-ltb _ _ h)
+
+  not-over : Place < N → Length ≤ F → hasFurther z number records n j ≡ false
+  unfolding hasFurther
+  not-over p h = rw (lt-ltb _ _ p, le-ltb _ _ h)
+
+  not-one : Place < N → F < Length → needed Length F ≤ j → hasFurther z number records n j ≡ false
+  unfolding hasFurther
+  not-one p o h = rw (lt-ltb _ _ p, lt-ltb _ _ o, le-ltb _ _ h)
+
+  is-one : Place < N → F < Length → j < needed Length F → hasFurther z number records n j ≡ true
+  unfolding hasFurther
+  is-one p o h = rw (lt-ltb _ _ p, lt-ltb _ _ o, lt-ltb _ _ h)
+
+  nothing : hasFurther z number records n j ≡ false → (output : List ℕ)
+      → (Nothing ≡ furtherOf z c received number records bytes n j) × (output ≡ furtherOutput z c received number records bytes n j output)
+  unfolding furtherOf furtherOutput
+  nothing e output = (rw e, rw e)
+
+  pub none-there : N ≤ Place → (output : List ℕ)
+      → (Nothing ≡ furtherOf z c received number records bytes n j) × (output ≡ furtherOutput z c received number records bytes n j output)
+  none-there h = nothing (not-there h)
+
+  pub none-over : Place < N → Length ≤ F → (output : List ℕ)
+      → (Nothing ≡ furtherOf z c received number records bytes n j) × (output ≡ furtherOutput z c received number records bytes n j output)
+  none-over p h = nothing (not-over p h)
+
+  pub none-left : Place < N → F < Length → needed Length F ≤ j → (output : List ℕ)
+      → (Nothing ≡ furtherOf z c received number records bytes n j) × (output ≡ furtherOutput z c received number records bytes n j output)
+  none-left p o h = nothing (not-one p o h)
+
+  -- place, length and number of fragments as the code has them
+  pub written : (at count total : ℕ) (h : Headers) (piece output : List ℕ) (long : ℕ) (after : List ℕ)
+      → at ≡ Place
+      → count ≡ lengthOf (getD records at 0)
+      → total ≡ needed count F
+      → h ≡ furtherHeaders c received (record { 0 = n }) j total
+      → piece ≡ getD (pieces F (bytesAt (slotOf z) bytes at count)) j []
+      → at < N
+      → F < count
+      → j < total
+      → Writes (datagram (z .version) h piece) output long after
+      → (Datagram long ≡ furtherOf z c received number records bytes n j) × (after ≡ furtherOutput z c received number records bytes n j output)
+  unfolding furtherOf furtherOutput
+  written at count total h piece output long after ea ec et eh ep p o l w =
+      let length-is : count ≡ Length = ec ∙ ap (λ (k : ℕ). lengthOf (getD records k 0)) ea in
+      let total-is : total ≡ needed Length F = et ∙ ap (λ (k : ℕ). needed k F) length-is in
+      let same : datagram (z .version) h piece ≡ furtherDatagram z c received number records bytes n j = rw (eh, ep, total-is, length-is, ea) in
+      let there = is-one (omega (arith, ea, p)) (omega (arith, length-is, o)) (omega (arith, total-is, l)) in
+      (rw (there, ← same, w .length-is), rw (there, ← same) (w .output-is))
+
+  -- a payload in flight fits its slot
+  pub fits : Table (slotOf z) (tableOf z number) records bytes → length (tableOf z number) ≡ N → n < 65536 → Place < N → Length ≤ 16 * F
+  fits t l small p =
+      let within : Place < length (tableOf z number) = omega (arith, l, p) in
+      fits-at (slotOf z) (tableOf z number) records Place (t .fits) within (omega (arith, within, t .recorded))
+      (omega (arith, small, first-at n (tableOf z number) within))
+
+pub piece-most : (f : ℕ) (l : List ℕ) (j : ℕ) → 1 ≤ f → length (getD (pieces f l) j []) ≤ f
+piece-most f l j some = rw (piece-at f l some j) (take-most f _)
+
+pub fragment-writable : (c : Acknowledgment) (received : List ℕ) (number : PacketNumber) (f j total : ℕ) (piece output : List ℕ)
+    → 1 ≤ f
+    → length piece ≤ f
+    → 16 * f + 17 ≤ length output
+    → Writable (furtherHeaders c received number j total) piece output
+unfolding misfit follows
+fragment-writable c received number f j total piece output some p wide =
+    record { fits = refl; room = omega (arith, payload-at-most FragmentFirst j) }

@@ -1,0 +1,5 @@
+pub mod Writing
+pub mod Fits
+pub mod Planned
+pub mod Performed
+pub mod Fragments

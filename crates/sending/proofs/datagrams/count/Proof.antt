@@ -1,0 +1,19 @@
+use borrow.Author.Needs.{needs}
+use Rattle.sending.proofs.datagrams.count.Statement.{statement}
+use Rattle.sending.proofs.datagrams.count.Tie as tie
+use borrow.Author.Tests.{lt-ltb, le-ltb}
+use Rattle.sending.specs.Datagrams.{countOf}
+
+fragments-needed-requires : tie.Need-fragments-needed-requires
+fragments-needed-requires c κs = search needs
+
+returns : tie.Need-returns
+unfolding countOf
+returns c = rw (lt-ltb _ _ (c .before .if1 .taken)) (c .fragments-needed .ensures)
+
+returns-2 : tie.Need-returns-2
+unfolding countOf
+returns-2 c = rw (le-ltb _ _ (c .if1 .left))
+
+pub count-spec : {M : Type 1} → statement M
+count-spec = tie.close (tie.spec fragments-needed-requires returns returns-2)

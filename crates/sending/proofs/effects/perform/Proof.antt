@@ -1,0 +1,75 @@
+-- What each part requires is in `SendReady`; what they did together is the step (`performed`).
+use borrow.Author.Needs.{needs}
+use Rattle.sending.proofs.effects.perform.Statement.{statement}
+use Rattle.sending.proofs.effects.perform.Tie as tie
+use Prim.Native.Nat.{_+_, _*_, _≤_}
+use native.Mathlib.Omega.{arith}
+use lib.ListN.{length}
+use denote.Ref.{now}
+use Rattle.laws.proofs.Slots.{slot-end}
+use Rattle.terms.proofs.Ranges.{InRange, in-range-means}
+use Rattle.sending.proofs.Fits.{holds, few-datagrams, not-over, writable}
+use Rattle.sending.proofs.Performed.{performed}
+
+sizes : (c : tie.Start) → InRange (c .args .sizes)
+sizes c = in-range-means (c .args .sizes) (c .pre .range)
+
+-- the payload fits its slot in flight, and that slot is there
+held : (c : tie.Start) → length (now (c .args .payload)) ≤ 16 * c .args .sizes .«fragment_size»
+held c = holds (length (now (c .args .payload))) (c .args .sizes .«fragment_size») 16 (sizes c .f .0) (omega (arith, c .pre .few, sizes c .m .1))
+
+there : (c : tie.Start) → c .args .sending .at * (16 * c .args .sizes .«fragment_size») + 16 * c .args .sizes .«fragment_size» ≤ length (now (c .args .payloads))
+there c = omega (arith, slot-end (c .args .sending .at) (c .args .sizes .«packets_in_flight») (16 * c .args .sizes .«fragment_size») (c .pre .at-place), c .pre .room)
+
+identify-requires : tie.Need-identify-requires
+identify-requires c κs = search needs
+
+first-requires : tie.Need-first-requires
+first-requires c κs =
+    let r = c .before .before .before .before .before .before .before .before .before .before .before .before .before .before .pre in
+    let f = sizes (c .before .before .before .before .before .before .before .before .before .before .before .before .before .before) .f in
+    (r .slots, f .0, f .1, few-datagrams (c .before .before .before .before .before .before .before .before .before .before .before .before .before .before .args .sizes .«fragment_size») (length (now (c .before .before .before .before .before .before .before .before .before .before .before .before .before .before .args .payload))) (c .before .before .before .before .before .before .before .before .before .before .before .before .before .before .args .sizes .«max_fragments») (sizes (c .before .before .before .before .before .before .before .before .before .before .before .before .before .before) .m .1) (r .few), writable (c .before .before .before .before .before .before .before .before .before .before .before .before .before .before .args .sizes .«fragment_size») (c .before .before .before .before .before .before .before .before .before .before .before .before .before .before .args .item) (c .before .before .before .before .identify .result .item) (c .before .before .before .before .before .before .before .before .before .before .before .before .before .before .args .end .acks) (now (c .before .before .before .before .before .before .before .before .before .before .before .before .before .before .args .received)) (now (c .before .before .before .before .before .before .before .before .before .before .before .before .before .before .args .payload)) (now (c .before .before .before .before .before .before .before .before .before .before .before .before .before .before .args .output)) (f .0) (r .listed) (r .short) (r .wide))
+
+count-requires : tie.Need-count-requires
+count-requires c κs = sizes (c .before .before .before .before .before .before .before .before .before .before .before .before .before .before .before .before .before) .f
+
+record-requires : tie.Need-record-requires
+record-requires c κs = search needs
+
+keep-requires : tie.Need-keep-requires
+keep-requires c κs =
+    let r = c .before .before .before .before .before .before .before .before .before .before .before .before .before .before .before .before .before .before .before .before .before .before .pre in
+    (sizes (c .before .before .before .before .before .before .before .before .before .before .before .before .before .before .before .before .before .before .before .before .before .before) .f .1, omega (arith, r .at-place, r .places), omega (arith, r .at-place, r .beside), there (c .before .before .before .before .before .before .before .before .before .before .before .before .before .before .before .before .before .before .before .before .before .before), held (c .before .before .before .before .before .before .before .before .before .before .before .before .before .before .before .before .before .before .before .before .before .before), omega (arith, not-over (c .before .before .before .before .before .before .before .before .before .before .before .before .before .before .before .before .before .before .before .before .before .before .args .sizes .«fragment_size») (length (now (c .before .before .before .before .before .before .before .before .before .before .before .before .before .before .before .before .before .before .before .before .before .before .args .payload))) (c .before .before .before .before .before .before .before .before .before .before .before .before .before .before .before .before .before .before .before .before .before .before .args .item) (r .short)))
+
+same-length : tie.Need-same-length
+same-length c = search needs
+
+same-length-2 : tie.Need-same-length-2
+same-length-2 c = search needs
+
+same-length-3 : tie.Need-same-length-3
+same-length-3 c = search needs
+
+same-length-4 : tie.Need-same-length-4
+same-length-4 c = search needs
+
+returns : tie.Need-returns
+returns c =
+    performed (c .before .before .before .before .before .before .before .before .before .before .before .before .before .before .before .before .before .before .before .before .before .before .before .before .before .before .before .before .before .args .sizes) (c .before .before .before .before .before .before .before .before .before .before .before .before .before .before .before .before .before .before .before .before .before .before .before .before .before .before .before .before .before .args .end) (now (c .before .before .before .before .before .before .before .before .before .before .before .before .before .before .before .before .before .before .before .before .before .before .before .before .before .before .before .before .before .args .received)) (now (c .before .before .before .before .before .before .before .before .before .before .before .before .before .before .before .before .before .before .before .before .before .before .before .before .before .before .before .before .before .args .number)) (now (c .before .before .before .before .before .before .before .before .before .before .before .before .before .before .before .before .before .before .before .before .before .before .before .before .before .before .before .before .before .args .records)) (now (c .before .before .before .before .before .before .before .before .before .before .before .before .before .before .before .before .before .before .before .before .before .before .before .before .before .before .before .before .before .args .payloads)) (c .before .before .before .before .before .before .before .before .before .before .before .before .before .before .before .before .before .before .before .before .before .before .before .before .before .before .before .before .before .args .item) (c .before .before .before .before .before .before .before .before .before .before .before .before .before .before .before .before .before .before .before .before .before .before .before .before .before .before .before .before .before .args .sending) (now (c .before .before .before .before .before .before .before .before .before .before .before .before .before .before .before .before .before .before .before .before .before .before .before .before .before .before .before .before .before .args .payload)) (now (c .before .before .before .before .before .before .before .before .before .before .before .before .before .before .before .before .before .before .before .before .before .before .before .before .before .before .before .before .before .args .output))
+    (c .before .before .before .before .before .before .before .before .before .before .before .before .before .before .before .before .before .before .before .identify .result) (c .before .before .before .before .before .before .before .before .before .before .record .result) (c .before .before .before .before .before .before .keep .result) (c .before .before .before .before .before .before .before .before .before .before .before .count .result) (c .before .before .before .before .before .before .before .before .before .before .before .before .before .before .first .result) _ _ _ _
+    (c .before .before .before .before .before .before .before .before .before .before .before .before .before .before .before .before .before .before .before .identify .ensures) (c .before .before .before .before .before .before .before .before .before .before .before .before .before .before .first .ensures) (c .before .before .before .before .before .before .before .before .before .before .before .count .ensures) (c .before .before .before .before .before .before .before .before .before .before .record .ensures) (c .before .before .before .before .before .before .keep .ensures)
+
+pub perform-spec : {M : Type 1} → statement M
+perform-spec =
+    tie.close
+    (tie.spec
+    identify-requires
+    first-requires
+    count-requires
+    record-requires
+    keep-requires
+    same-length
+    same-length-2
+    same-length-3
+    same-length-4
+    returns)

@@ -1,0 +1,108 @@
+-- An open gate gives the plan what it requires; an accepted plan (`accepted`) with it gives the effects what they require.
+use borrow.Author.Needs.{needs}
+use Rattle.sending.proofs.transmit.Statement.{statement}
+use Rattle.sending.proofs.transmit.Tie as tie
+use mathlib.Core.Path.{_≡_, sym, _∙_}
+use native.Mathlib.Omega.{arith}
+use lib.ListN.{length}
+use lib.Seq.{length-take-le}
+use denote.Ref.{now}
+use Rattle.ends.specs.State.{State, lending}
+use Rattle.ends.proofs.Opened.{Opened, opened}
+use Rattle.acknowledgment.specs.State.{tableOf}
+use Rattle.sending.specs.Plan.{planOf}
+use Rattle.sending.specs.declared.plan.Plan.{Plan}
+use Rattle.sending.specs.declared.plan.Plan.the-variants.{Send}
+use Rattle.sending.proofs.Planned.{Accepted, accepted}
+use Rattle.sending.proofs.Performed.{kept, sends}
+
+abbrev end : tie.Start → State
+end c = lending (c .args .end) (now (c .args .received)) (now (c .args .number)) (now (c .args .records)) (now (c .args .payloads)) (now (c .args .slots)) (now (c .args .entry)) (now (c .args .header)) (now (c .args .joined)) (now (c .args .index)) (now (c .args .lengths)) (now (c .args .held))
+
+gate : (c : tie.Start) → Opened (c .args .sizes) (end c) (now (c .args .output))
+gate c = opened (c .args .sizes) (end c) (now (c .args .output)) (c .pre)
+
+whole : (c : tie.Start) → length (tableOf (c .args .sizes) (now (c .args .number))) ≡ c .args .sizes .«packets_in_flight»
+whole c = length-take-le (c .args .sizes .«packets_in_flight») (now (c .args .number)) (gate c .number-room)
+
+abbrev plan : tie.Start → Plan
+plan c = planOf (c .args .sizes) (c .args .end .acks .«sequence_number» .0) (c .args .end .ordering) (c .args .end .sequencing) (tableOf (c .args .sizes) (now (c .args .number))) (c .args .item) (length (now (c .args .payload)))
+
+goes : (c : tie.After-known-told2) → plan (c .before .before .before .before .before .before .before .before .before .before .before .before .before .before .before .before .before .before) ≡ Send (c .before .plan2 .given .0 .0)
+goes c = sym (c .before .before .before .judge .ensures) ∙ c .before .plan2 .given .1
+
+slice-reshare-prefix-judge : tie.Need-slice-reshare-prefix-judge
+slice-reshare-prefix-judge c = gate (c .before .before .before .before .before .before .before .before .before .before .before .before .before) .number-room
+
+slice-aggregate-judge : tie.Need-slice-aggregate-judge
+slice-aggregate-judge c = sym (whole (c .before .before .before .before .before .before .before .before .before .before .before .before .before .before))
+
+judge-requires : tie.Need-judge-requires
+judge-requires c κs = (gate (c .before .before .before .before .before .before .before .before .before .before .before .before .before .before) .ranged, whole (c .before .before .before .before .before .before .before .before .before .before .before .before .before .before), gate (c .before .before .before .before .before .before .before .before .before .before .before .before .before .before) .ordered .four, gate (c .before .before .before .before .before .before .before .before .before .before .before .before .before .before) .four)
+
+enum-known-plan : tie.Need-enum-known-plan
+enum-known-plan c = search needs
+
+enum-known-plan-2 : tie.Need-enum-known-plan-2
+enum-known-plan-2 c = search needs
+
+perform-requires : tie.Need-perform-requires
+perform-requires c κs =
+    let o = gate (c .before .before .before .before .before .before .before .before .before .before .before .before .before .before .before .before .before .before .before .before .before .before) in
+    let q = c .before .before .before .before .before .plan2 .given .0 .0 in
+    let n = whole (c .before .before .before .before .before .before .before .before .before .before .before .before .before .before .before .before .before .before .before .before .before .before) in
+    let a : Accepted (c .before .before .before .before .before .before .before .before .before .before .before .before .before .before .before .before .before .before .before .before .before .before .args .sizes) (c .before .before .before .before .before .before .before .before .before .before .before .before .before .before .before .before .before .before .before .before .before .before .args .end .acks .«sequence_number» .0) (c .before .before .before .before .before .before .before .before .before .before .before .before .before .before .before .before .before .before .before .before .before .before .args .end .ordering) (c .before .before .before .before .before .before .before .before .before .before .before .before .before .before .before .before .before .before .before .before .before .before .args .end .sequencing) (tableOf (c .before .before .before .before .before .before .before .before .before .before .before .before .before .before .before .before .before .before .before .before .before .before .args .sizes) (now (c .before .before .before .before .before .before .before .before .before .before .before .before .before .before .before .before .before .before .before .before .before .before .args .number))) (c .before .before .before .before .before .before .before .before .before .before .before .before .before .before .before .before .before .before .before .before .before .before .args .item) (length (now (c .before .before .before .before .before .before .before .before .before .before .before .before .before .before .before .before .before .before .before .before .before .before .args .payload))) q = accepted (c .before .before .before .before .before .before .before .before .before .before .before .before .before .before .before .before .before .before .before .before .before .before .args .sizes) (c .before .before .before .before .before .before .before .before .before .before .before .before .before .before .before .before .before .before .before .before .before .before .args .end .acks .«sequence_number» .0) (c .before .before .before .before .before .before .before .before .before .before .before .before .before .before .before .before .before .before .before .before .before .before .args .end .ordering) (c .before .before .before .before .before .before .before .before .before .before .before .before .before .before .before .before .before .before .before .before .before .before .args .end .sequencing) (tableOf (c .before .before .before .before .before .before .before .before .before .before .before .before .before .before .before .before .before .before .before .before .before .before .args .sizes) (now (c .before .before .before .before .before .before .before .before .before .before .before .before .before .before .before .before .before .before .before .before .before .before .args .number))) (c .before .before .before .before .before .before .before .before .before .before .before .before .before .before .before .before .before .before .before .before .before .before .args .item) (length (now (c .before .before .before .before .before .before .before .before .before .before .before .before .before .before .before .before .before .before .before .before .before .before .args .payload))) (omega (arith, n, o .in-range .n .0)) (o .ordered .four) (o .four) q (goes (c .before .before .before .before)) in
+    record {
+      range = o .ranged;
+      slots = o .received-room;
+      places = o .number-room;
+      beside = o .records-room;
+      room = o .payloads-room;
+      four-ordered = o .ordered .four;
+      four-sequenced = o .four;
+      listed = a .listed;
+      short = a .short;
+      few = a .few;
+      at-place = omega (arith, a .at-place, n);
+      on-stream = a .on-stream;
+      wide = o .output-room;
+    }
+
+same-length : tie.Need-same-length
+same-length c = search needs
+
+returns : tie.Need-returns
+returns c = kept (c .before .before .before .before .before .before .before .before .before .before .before .before .before .before .before .before .before .before .args .sizes) (end (c .before .before .before .before .before .before .before .before .before .before .before .before .before .before .before .before .before .before)) (c .before .before .before .before .before .before .before .before .before .before .before .before .before .before .before .before .before .before .args .item) (now (c .before .before .before .before .before .before .before .before .before .before .before .before .before .before .before .before .before .before .args .payload)) (now (c .before .before .before .before .before .before .before .before .before .before .before .before .before .before .before .before .before .before .args .output)) _ (sym (c .before .before .before .judge .ensures) ∙ c .before .plan .given .1)
+
+same-length-2 : tie.Need-same-length-2
+same-length-2 c = search needs
+
+same-length-3 : tie.Need-same-length-3
+same-length-3 c = search needs
+
+same-length-4 : tie.Need-same-length-4
+same-length-4 c = search needs
+
+same-length-5 : tie.Need-same-length-5
+same-length-5 c = search needs
+
+returns-2 : tie.Need-returns-2
+returns-2 c = sends (c .before .before .before .before .before .before .before .before .before .before .before .before .before .before .before .before .before .before .before .before .before .before .before .before .before .before .before .before .before .before .before .args .sizes) (end (c .before .before .before .before .before .before .before .before .before .before .before .before .before .before .before .before .before .before .before .before .before .before .before .before .before .before .before .before .before .before .before)) (c .before .before .before .before .before .before .before .before .before .before .before .before .before .before .before .before .before .before .before .before .before .before .before .before .before .before .before .before .before .before .before .args .item) (now (c .before .before .before .before .before .before .before .before .before .before .before .before .before .before .before .before .before .before .before .before .before .before .before .before .before .before .before .before .before .before .before .args .payload)) (now (c .before .before .before .before .before .before .before .before .before .before .before .before .before .before .before .before .before .before .before .before .before .before .before .before .before .before .before .before .before .before .before .args .output)) _ _ _ _ _ _ (goes (c .before .before .before .before .before .before .before .before .before .before .before .before .before)) (c .before .before .before .before .before .before .before .before .perform .ensures)
+
+pub transmit-spec : {M : Type 1} → statement M
+transmit-spec =
+    tie.close
+    (tie.spec
+    slice-reshare-prefix-judge
+    slice-aggregate-judge
+    judge-requires
+    enum-known-plan
+    enum-known-plan-2
+    perform-requires
+    same-length
+    returns
+    same-length-2
+    same-length-3
+    same-length-4
+    same-length-5
+    returns-2)

@@ -1,0 +1,62 @@
+-- Document 01, module 7: "as fragments, which it does exactly when it is over F; an empty one goes as an ordinary packet"; "a
+-- send writes its only one or fragment 0".
+use Prim.Native.Nat.{ℕ, _+_, _≤_}
+use mathlib.Core.Path.{_≡_}
+use mathlib.Core.Bool.{false, cond}
+use mathlib.Core.List.{List, _++_}
+use lib.Dec.{ltb}
+use lib.ListN.{length, take, drop}
+use Rattle.serial.specs.declared.ItemId.{ItemId}
+use Rattle.serial.specs.declared.PacketNumber.{PacketNumber}
+use Rattle.received.specs.Record.{slotsOf}
+use Rattle.received.specs.Field.{newestOf, fieldOf}
+use Rattle.acknowledgment.specs.declared.Acknowledgment.{Acknowledgment}
+use Rattle.splitter.specs.Split.{needed}
+use Rattle.packet.specs.Table.{follows}
+use Rattle.packet.specs.Layout.{payloadAt, datagram}
+use Rattle.packet.specs.Read.{misfit}
+use Rattle.packet.specs.declared.Headers.{Headers}
+use Rattle.packet.specs.declared.AckedPacketHeader.{AckedPacketHeader}
+use Rattle.packet.specs.declared.PacketType.{PacketType}
+use Rattle.packet.specs.declared.PacketType.the-variants.{Packet, Fragment}
+use Rattle.sending.specs.declared.Item.{Item}
+
+unfoldable pub typeFor : ℕ → ℕ → PacketType
+typeFor f n = cond (ltb f n) Fragment Packet
+
+-- how many datagrams an item is
+unfoldable pub countOf : ℕ → ℕ → ℕ
+countOf f n = cond (ltb f n) (needed n f) 1
+
+-- the acknowledgment header of a packet that is sent now: the newest number received, and the field of those before it
+abbrev pub ackedNow : PacketNumber → Acknowledgment → List ℕ → AckedPacketHeader
+ackedNow number c received =
+    record { number = number; acked = record { 0 = newestOf (c .received .0) }; field = fieldOf (c .received .0) (slotsOf received) }
+
+-- the headers of an item's first datagram; which of them are written is the table's
+abbrev pub headersFor : ℕ → Item → ItemId → Acknowledgment → List ℕ → ℕ → Headers
+headersFor f i id c received n =
+    record {
+      standard = record { «packet_type» = typeFor f n; delivery = i .delivery; ordering = i .ordering };
+      fragment = record { number = c .«sequence_number»; id = 0; count = countOf f n };
+      acked = ackedNow (c .«sequence_number») c received;
+      arranging = record { index = id; stream = i .stream };
+    }
+
+-- the datagram that an item is, or its first
+abbrev pub datagramFor : ℕ → ℕ → Item → ItemId → Acknowledgment → List ℕ → List ℕ → List ℕ
+datagramFor v f i id c received payload = datagram v (headersFor f i id c received (length payload)) (take f payload)
+
+-- "bytes after an item stay"
+abbrev pub over : List ℕ → List ℕ → List ℕ
+over d output = d ++ drop (length d) output
+
+-- a datagram is at the start of the output
+pub record Writes (d output : List ℕ) (count : ℕ) (after : List ℕ) : Type 0 where
+  pub length-is : count ≡ length d
+  pub output-is : after ≡ over d output
+
+-- what that requires: a listed combination, and room
+pub record Writable (h : Headers) (payload output : List ℕ) : Type 0 where
+  pub fits : misfit (h .standard) (follows (h .standard)) (length payload) ≡ false
+  pub room : payloadAt (follows (h .standard)) (h .fragment .id) + length payload ≤ length output

@@ -1,0 +1,4 @@
+pub mod Plan
+pub mod Datagrams
+pub mod Send
+pub mod Further

@@ -1,0 +1,128 @@
+// The datagrams of an item: its only one, or its fragments.
+ghost use mathlib.Core.Path.{_≡_};
+ghost use Prim.Native.Nat.{_≤_, _<_};
+ghost use lib.ListN.{length, take};
+ghost use Rattle.received.specs.Record.{slotCount};
+ghost use Rattle.packet.specs.Layout.{datagram};
+ghost use Rattle.sending.specs.Datagrams.{ackedNow, typeFor, headersFor, datagramFor, countOf, Writable, Writes};
+use crate::Item;
+use acknowledgment::Acknowledgment;
+use packet::AckedPacketHeader;
+use packet::ArrangingHeader;
+use packet::Built;
+use packet::FragmentHeader;
+use packet::Headers;
+use packet::PacketType;
+use packet::StandardHeader;
+use serial::ItemId;
+use serial::PacketNumber;
+
+// The datagram that an item is, or its first, at the start of the output, and its length. Requires room for it.
+pub fn first(
+    version: u16,
+    f: usize,
+    item: Item,
+    id: ItemId,
+    acks: Acknowledgment,
+    received: &[u32],
+    payload: &[u8],
+    output: &mut [u8],
+) -> usize
+    requires { ⌜ (slotCount ≤ length (now received)) × (1 ≤ f) × (f ≤ 1024) × (countOf f (length (now payload)) < 256) × Writable (headersFor f item id acks (now received) (length (now payload))) (take f (now payload)) (now output) ⌝ }
+    ensures { λ r. ⌜ Writes (datagramFor version f item id acks (now (received .entry)) (now (payload .entry))) (now (output .entry)) r (now (output .exit)) ⌝ }
+{
+    let headers = headers(f, item, id, acks, received, payload.len());
+    write(version, headers, first_piece(f, payload), output)
+}
+
+// The headers of an item's first datagram. Those that do not follow are not written.
+fn headers(
+    f: usize,
+    item: Item,
+    id: ItemId,
+    acks: Acknowledgment,
+    received: &[u32],
+    size: usize,
+) -> Headers
+    requires { ⌜ (slotCount ≤ length (now received)) × (1 ≤ f) × (f ≤ 1024) × (countOf f size < 256) ⌝ }
+    ensures { λ r. ⌜ r ≡ headersFor f item id acks (now (received .entry)) size ⌝ }
+{
+    let number = acks.sequence_number;
+    let delivery = item.delivery;
+    let ordering = item.ordering;
+    Headers {
+        standard: StandardHeader {
+            packet_type: packet_type(f, size),
+            delivery,
+            ordering,
+        },
+        fragment: FragmentHeader {
+            number,
+            id: 0,
+            count: count(f, size) as u8,
+        },
+        acked: acknowledge(number, acks, received),
+        arranging: ArrangingHeader {
+            index: id,
+            stream: item.stream,
+        },
+    }
+}
+
+// What an end tells of the packets that it has received, in a packet of its own.
+pub fn acknowledge(
+    number: PacketNumber,
+    acks: Acknowledgment,
+    received: &[u32],
+) -> AckedPacketHeader
+    requires { ⌜ slotCount ≤ length (now received) ⌝ }
+    ensures { λ r. ⌜ r ≡ ackedNow number acks (now (received .entry)) ⌝ }
+{
+    AckedPacketHeader {
+        number,
+        acked: acks.remote_sequence_num(),
+        field: received::ack_bitfield(acks.received, received),
+    }
+}
+
+// An item goes as fragments exactly where it is over F.
+fn packet_type(f: usize, size: usize) -> PacketType
+    ensures { λ r. ⌜ r ≡ typeFor f size ⌝ }
+{
+    if f < size {
+        return PacketType::Fragment;
+    }
+    PacketType::Packet
+}
+
+// How many datagrams an item is.
+pub fn count(f: usize, size: usize) -> usize
+    requires { ⌜ (1 ≤ f) × (f ≤ 1024) ⌝ }
+    ensures { λ r. ⌜ r ≡ countOf f size ⌝ }
+{
+    if f < size {
+        return splitter::fragments_needed(size, f);
+    }
+    1
+}
+
+// What the first of them has of the payload.
+fn first_piece(f: usize, payload: &[u8]) -> &[u8]
+    ensures { λ r. ⌜ now r ≡ take f (now (payload .entry)) ⌝ }
+{
+    if f < payload.len() {
+        return &payload[..f];
+    }
+    payload
+}
+
+// A datagram at the start of the output, and its length. Requires a listed combination, and room.
+pub fn write(version: u16, headers: Headers, payload: &[u8], output: &mut [u8]) -> usize
+    requires { ⌜ Writable headers (now payload) (now output) ⌝ }
+    ensures { λ r. ⌜ Writes (datagram version headers (now (payload .entry))) (now (output .entry)) r (now (output .exit)) ⌝ }
+{
+    match packet::build(version, headers, payload, output) {
+        Built::Datagram(length) => length,
+        Built::Refused(_) => 0,
+    }
+}

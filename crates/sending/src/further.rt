@@ -1,0 +1,103 @@
+// The further datagrams of an item that goes as fragments.
+ghost use mathlib.Core.Path.{_≡_};
+ghost use Prim.Native.Nat.{_≤_, _<_};
+ghost use lib.ListN.{length};
+ghost use Rattle.terms.specs.declared.Gate.the-variants.{Open};
+ghost use Rattle.ends.specs.State.{lending};
+ghost use Rattle.ends.specs.Gate.{gateOf};
+ghost use Rattle.received.specs.Record.{slotCount};
+ghost use Rattle.sending.specs.Further.{furtherOf, furtherOutput, furtherHeaders};
+use crate::datagrams;
+use acknowledgment::Acknowledgment;
+use ends::End;
+use packet::ArrangingHeader;
+use packet::DeliveryGuarantee;
+use packet::FragmentHeader;
+use packet::Headers;
+use packet::OrderingGuarantee;
+use packet::PacketType;
+use packet::StandardHeader;
+use serial::ItemId;
+use serial::PacketNumber;
+use terms::Refusal;
+use terms::Sizes;
+
+// A datagram of so many bytes is at the start of the output, or there is no such fragment.
+pub enum Further {
+    Datagram(usize),
+    Nothing,
+    Refused(Refusal),
+}
+
+// Fragment j of a packet in flight whose payload is over F. For the crates above: requires an end that the gate lets through.
+pub fn fragment(
+    sizes: Sizes,
+    end: End,
+    received: &[u32],
+    number: &[u32],
+    records: &[u64],
+    payloads: &[u8],
+    slots: &[u32],
+    entry: &[u64],
+    header: &[u64],
+    joined: &[u8],
+    index: &[u32],
+    lengths: &[u16],
+    held: &[u8],
+    packet: PacketNumber,
+    j: usize,
+    output: &mut [u8],
+) -> Further
+    requires { ⌜ gateOf sizes (lending end (now received) (now number) (now records) (now payloads) (now slots) (now entry) (now header) (now joined) (now index) (now lengths) (now held)) (now output) ≡ Open ⌝ }
+    ensures { λ r. ⌜ r ≡ furtherOf sizes (end .acks) (now (received .entry)) (now (number .entry)) (now (records .entry)) (now (payloads .entry)) (packet .0) j ⌝ }
+    ensures { λ _. ⌜ now (output .exit) ≡ furtherOutput sizes (end .acks) (now (received .entry)) (now (number .entry)) (now (records .entry)) (now (payloads .entry)) (packet .0) j (now (output .entry)) ⌝ }
+{
+    let f = sizes.fragment_size;
+    let n = sizes.packets_in_flight;
+    let at = keys::find(&number[..n], packet.0);
+    if at == n {
+        return Further::Nothing;
+    }
+    let count = flight::entry::payload_length(records[at]);
+    if count <= f {
+        return Further::Nothing;
+    }
+    let total = splitter::fragments_needed(count, f);
+    if total <= j {
+        return Further::Nothing;
+    }
+    let start = at * (16 * f);
+    let piece = splitter::fragment(&payloads[start..start + count], f, j);
+    let headers = headers(end.acks, received, packet, j, total);
+    Further::Datagram(datagrams::write(sizes.version, headers, piece, output))
+}
+
+// Only fragment 0 has the acknowledgment header, as it is at the time of the call.
+fn headers(
+    acks: Acknowledgment,
+    received: &[u32],
+    number: PacketNumber,
+    j: usize,
+    total: usize,
+) -> Headers
+    requires { ⌜ (slotCount ≤ length (now received)) × (j < 256) × (total < 256) ⌝ }
+    ensures { λ r. ⌜ r ≡ furtherHeaders acks (now (received .entry)) number j total ⌝ }
+{
+    Headers {
+        standard: StandardHeader {
+            packet_type: PacketType::Fragment,
+            delivery: DeliveryGuarantee::Reliable,
+            ordering: OrderingGuarantee::None,
+        },
+        fragment: FragmentHeader {
+            number,
+            id: j as u8,
+            count: total as u8,
+        },
+        acked: datagrams::acknowledge(number, acks, received),
+        arranging: ArrangingHeader {
+            index: ItemId(0),
+            stream: 0,
+        },
+    }
+}
