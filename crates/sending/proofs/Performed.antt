@@ -5,7 +5,6 @@ use Prim.Native.Nat.{ℕ}
 use lib.ListN.{length}
 use Rattle.terms.specs.declared.Sizes.{Sizes}
 use Rattle.terms.specs.declared.Refusal.{Refusal}
-use Rattle.flight.specs.declared.SentPacket.{SentPacket}
 use Rattle.acknowledgment.specs.State.{tableOf}
 use Rattle.acknowledgment.specs.declared.Acknowledgment.{Acknowledgment}
 use Rattle.ends.specs.State.{State, countersOf}
@@ -29,16 +28,15 @@ module _ (z : Sizes) (end : End) (received number records bytes : List ℕ) (i :
         answer = Datagram (record { number = end .acks .«sequence_number»; datagrams = datagrams; length = written });
       }
 
-  pub performed : (d : Identified) (sent : SentPacket) (acks : Acknowledgment) (datagrams written : ℕ) (number′ records′ bytes′ output′ : List ℕ)
+  pub performed : (d : Identified) (acks : Acknowledgment) (datagrams written : ℕ) (number′ records′ bytes′ output′ : List ℕ)
       → d ≡ identifiedIn end i q
       → Writes (datagramFor (z .version) (z .«fragment_size») i (d .item) (end .acks) received payload) output written output′
       → datagrams ≡ countOf (z .«fragment_size») (length payload)
-      → sent ≡ recordOf i (d .item)
-      → Keeping (keptBy (i .delivery) (end .acks) (z .«fragment_size») (q .at) number records bytes sent payload) acks number′ records′ bytes′
+      → Keeping (keptBy (i .delivery) (end .acks) (z .«fragment_size») (q .at) number records bytes (recordOf i (d .item)) payload) acks number′ records′ bytes′
       → Performs z end received number records bytes i q payload output (sentAs d acks datagrams written) number′ records′ bytes′ output′
-  performed d sent acks datagrams written number′ records′ bytes′ output′ e w n s k =
+  performed d acks datagrams written number′ records′ bytes′ output′ e w n k =
       let w′ = rw e at w in
-      let k′ = rw (s, e) at k in
+      let k′ = rw e at k in
       record {
         answer-is = rw (n, w′ .length-is);
         acks-are = k′ .counters-are;

@@ -100,10 +100,10 @@ pub fn count(f: usize, size: usize) -> usize
     requires { ⌜ (1 ≤ f) × (f ≤ 1024) ⌝ }
     ensures { λ r. ⌜ r ≡ countOf f size ⌝ }
 {
-    if f < size {
-        return splitter::fragments_needed(size, f);
+    if size <= f {
+        return 1;
     }
-    1
+    splitter::fragments_needed(size, f)
 }
 
 // What the first of them has of the payload.

@@ -45,7 +45,7 @@ pub fn perform(
     ensures { λ r. ⌜ Performs sizes end (now (received .entry)) (now (number .entry)) (now (records .entry)) (now (payloads .entry)) item sending (now (payload .entry)) (now (output .entry)) r (now (number .exit)) (now (records .exit)) (now (payloads .exit)) (now (output .exit)) ⌝ }
 {
     let f = sizes.fragment_size;
-    let delivery = item.delivery;
+    let at = sending.at;
     let acks = end.acks;
     let packet = acks.sequence_number;
     let reassembly = end.reassembly;
@@ -55,18 +55,7 @@ pub fn perform(
     let sequencing = identified.sequencing;
     let length = datagrams::first(sizes.version, f, item, id, acks, received, payload, output);
     let datagrams = datagrams::count(f, payload.len());
-    let sent = record(item, id);
-    let acks = keep(
-        delivery,
-        acks,
-        f,
-        sending.at,
-        number,
-        records,
-        payloads,
-        sent,
-        payload,
-    );
+    let acks = keep(item, id, acks, f, at, number, records, payloads, payload);
     Sent {
         end: End {
             acks,
@@ -165,6 +154,34 @@ fn on_ordered(
     }
 }
 
+// A reliable packet is in flight under the local number, and the next one has the next.
+fn keep(
+    item: Item,
+    id: ItemId,
+    acks: Acknowledgment,
+    f: usize,
+    at: usize,
+    number: &mut [u32],
+    records: &mut [u64],
+    payloads: &mut [u8],
+    payload: &[u8],
+) -> Acknowledgment
+    requires { ⌜ (f ≤ 1024) × (at < length (now number)) × (at < length (now records)) × (at * (16 * f) + 16 * f ≤ length (now payloads)) × (length (now payload) ≤ 16 * f) × (length (now payload) < 65536) ⌝ }
+    ensures { λ r. ⌜ Keeping (keptBy (item .delivery) acks f at (now (number .entry)) (now (records .entry)) (now (payloads .entry)) (recordOf item id) (now (payload .entry))) r (now (number .exit)) (now (records .exit)) (now (payloads .exit)) ⌝ }
+{
+    let delivery = item.delivery;
+    let next = acknowledgment::steps::sent(acks);
+    match delivery {
+        DeliveryGuarantee::Unreliable => acks,
+        DeliveryGuarantee::Reliable => {
+            let packet = acks.sequence_number;
+            let sent = record(item, id);
+            flight::store(number, records, payloads, 16 * f, at, packet, sent, payload);
+            next
+        }
+    }
+}
+
 // What is kept of a packet beside its payload, and given back where it is dropped.
 fn record(item: Item, id: ItemId) -> SentPacket
     ensures { λ r. ⌜ r ≡ recordOf item id ⌝ }
@@ -174,30 +191,5 @@ fn record(item: Item, id: ItemId) -> SentPacket
         ordering: table::ordering_number(ordering),
         stream: item.stream,
         item: id,
-    }
-}
-
-// A reliable packet is in flight under the local number, and the next one has the next.
-fn keep(
-    delivery: DeliveryGuarantee,
-    acks: Acknowledgment,
-    f: usize,
-    at: usize,
-    number: &mut [u32],
-    records: &mut [u64],
-    payloads: &mut [u8],
-    sent: SentPacket,
-    payload: &[u8],
-) -> Acknowledgment
-    requires { ⌜ (f ≤ 1024) × (at < length (now number)) × (at < length (now records)) × (at * (16 * f) + 16 * f ≤ length (now payloads)) × (length (now payload) ≤ 16 * f) × (length (now payload) < 65536) ⌝ }
-    ensures { λ r. ⌜ Keeping (keptBy delivery acks f at (now (number .entry)) (now (records .entry)) (now (payloads .entry)) sent (now (payload .entry))) r (now (number .exit)) (now (records .exit)) (now (payloads .exit)) ⌝ }
-{
-    match delivery {
-        DeliveryGuarantee::Unreliable => acks,
-        DeliveryGuarantee::Reliable => {
-            let packet = acks.sequence_number;
-            flight::store(number, records, payloads, 16 * f, at, packet, sent, payload);
-            acknowledgment::steps::sent(acks)
-        }
     }
 }

@@ -4,16 +4,16 @@ use Rattle.sending.proofs.datagrams.count.Tie as tie
 use borrow.Author.Tests.{lt-ltb, le-ltb}
 use Rattle.sending.specs.Datagrams.{countOf}
 
+returns : tie.Need-returns
+unfolding countOf
+returns c = rw (le-ltb _ _ (c .if1 .taken))
+
 fragments-needed-requires : tie.Need-fragments-needed-requires
 fragments-needed-requires c κs = search needs
 
-returns : tie.Need-returns
-unfolding countOf
-returns c = rw (lt-ltb _ _ (c .before .if1 .taken)) (c .fragments-needed .ensures)
-
 returns-2 : tie.Need-returns-2
 unfolding countOf
-returns-2 c = rw (le-ltb _ _ (c .if1 .left))
+returns-2 c = rw (lt-ltb _ _ (c .before .if1 .left)) (c .fragments-needed .ensures)
 
 pub count-spec : {M : Type 1} → statement M
-count-spec = tie.close (tie.spec fragments-needed-requires returns returns-2)
+count-spec = tie.close (tie.spec returns fragments-needed-requires returns-2)

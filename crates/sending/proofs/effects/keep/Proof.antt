@@ -2,7 +2,11 @@
 use borrow.Author.Needs.{needs}
 use Rattle.sending.proofs.effects.keep.Statement.{statement}
 use Rattle.sending.proofs.effects.keep.Tie as tie
-use mathlib.Core.Path.{refl}
+use mathlib.Core.Path.{_≡_, refl}
+use Rattle.packet.specs.declared.DeliveryGuarantee.the-variants.{Unreliable, Reliable}
+
+sent-requires : tie.Need-sent-requires
+sent-requires c κs = search needs
 
 enum-told : tie.Need-enum-told
 enum-told c = search needs
@@ -10,17 +14,19 @@ enum-told c = search needs
 enum-told-2 : tie.Need-enum-told-2
 enum-told-2 c = search needs
 
+record-requires : tie.Need-record-requires
+record-requires c κs = search needs
+
 mul-store : tie.Need-mul-store
 mul-store c = search needs
 
 store-requires : tie.Need-store-requires
 store-requires c κs = search needs
 
-sent-requires : tie.Need-sent-requires
-sent-requires c κs = search needs
-
 returns : tie.Need-returns
-returns c = rw (c .enum-told .given .1) (record { counters-are = refl; number-is = refl; records-are = refl; bytes-are = refl })
+returns c =
+    let way : c .before .before .before .before .before .before .before .args .item .delivery ≡ Unreliable = c .enum-told .given .1 in
+    rw way (record { counters-are = refl; number-is = refl; records-are = refl; bytes-are = refl })
 
 same-length : tie.Need-same-length
 same-length c = search needs
@@ -33,23 +39,26 @@ same-length-3 c = search needs
 
 returns-2 : tie.Need-returns-2
 returns-2 c =
-    rw (c .before .before .before .before .before .before .before .before .before .before .before .before .enum-told2 .given .1)
+    let way : c .before .before .before .before .before .before .before .before .before .before .before .before .before .before .before .before .before .before .before .args .item .delivery ≡ Reliable = c .before .before .before .before .before .before .before .before .before .before .before .before .enum-told2 .given .1 in
+    let stored = c .before .before .before .before .before .before .store .ensures in
+    rw way
     (record {
-      counters-are = c .sent .ensures;
-      number-is = c .before .before .before .before .before .before .before .store .ensures .0;
-      records-are = c .before .before .before .before .before .before .before .store .ensures .1 .0;
-      bytes-are = c .before .before .before .before .before .before .before .store .ensures .1 .1;
+      counters-are = c .before .before .before .before .before .before .before .before .before .before .before .before .before .before .sent .ensures;
+      number-is = stored .0;
+      records-are = rw (c .before .before .before .before .before .before .before .before .before .before .«record» .ensures) at (stored .1 .0);
+      bytes-are = stored .1 .1;
     })
 
 pub keep-spec : {M : Type 1} → statement M
 keep-spec =
     tie.close
     (tie.spec
+    sent-requires
     enum-told
     enum-told-2
+    record-requires
     mul-store
     store-requires
-    sent-requires
     returns
     same-length
     same-length-2
