@@ -1,0 +1,3 @@
+pub mod Plans
+pub mod Parts
+pub mod Steps

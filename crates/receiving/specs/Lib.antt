@@ -1,0 +1,4 @@
+pub mod Plan
+pub mod Packets
+pub mod Fragments
+pub mod Receive

@@ -1,0 +1,130 @@
+// A fragment: it joins its message, and where that is whole the message is handed out and its packet acknowledged.
+ghost use mathlib.Core.Path.{_≡_};
+ghost use Prim.Native.Nat.{_≤_};
+ghost use lib.ListN.{length};
+ghost use Rattle.received.specs.Record.{slotCount};
+ghost use Rattle.receiving.specs.Packets.{Hearing};
+ghost use Rattle.receiving.specs.Fragments.{partOf, acksAtWhole, toldPart, FragmentReady, Joins};
+use crate::Answer;
+use crate::Item;
+use crate::Received;
+use acknowledgment::Acknowledgment;
+use ends::End;
+use packet::DeliveryGuarantee;
+use packet::Headers;
+use packet::OrderingGuarantee;
+use reassembly::plan::Fragment;
+use reassembly::words::AckHeader;
+use terms::Sizes;
+
+// Requires an end that the gate lets through, and a payload to F.
+pub fn join(
+    sizes: Sizes,
+    end: End,
+    received: &mut [u32],
+    number: &mut [u32],
+    slots: &mut [u32],
+    entry: &mut [u64],
+    header: &mut [u64],
+    joined: &mut [u8],
+    headers: Headers,
+    payload: &[u8],
+    output: &mut [u8],
+) -> Received
+    requires { ⌜ FragmentReady sizes end (now received) (now number) (now slots) (now entry) (now header) (now joined) (now payload) (now output) ⌝ }
+    ensures { λ r. ⌜ Joins sizes headers (now (payload .entry)) end (now (received .entry)) (now (number .entry)) (now (slots .entry)) (now (entry .entry)) (now (header .entry)) (now (joined .entry)) (now (output .entry)) r (now (received .exit)) (now (number .exit)) (now (slots .exit)) (now (entry .exit)) (now (header .exit)) (now (joined .exit)) (now (output .exit)) ⌝ }
+{
+    let f = sizes.fragment_size;
+    let c = sizes.reassembly_slots;
+    let num = end.reassembly;
+    let fragment = fragment(headers);
+    let plan = reassembly::plan::judge(f, num, &slots[..c], entry, fragment, payload.len());
+    let handled = reassembly::effects::perform(
+        f,
+        num,
+        &mut slots[..c],
+        entry,
+        header,
+        joined,
+        fragment,
+        plan,
+        payload,
+        output,
+    );
+    let answer = handled.answer;
+    let reassembly = handled.sequence_num;
+    let ordering = end.ordering;
+    let sequencing = end.sequencing;
+    Received {
+        end: End {
+            acks: hear_whole(answer, sizes, end.acks, received, number),
+            reassembly,
+            ordering,
+            sequencing,
+        },
+        answer: tell(answer),
+    }
+}
+
+fn fragment(headers: Headers) -> Fragment
+    ensures { λ r. ⌜ r ≡ partOf headers ⌝ }
+{
+    let part = headers.fragment;
+    let acked = headers.acked;
+    let number = part.number;
+    let heard = acked.number;
+    let newest = acked.acked;
+    Fragment {
+        number,
+        id: part.id,
+        count: part.count,
+        header: AckHeader {
+            number: heard,
+            acked: newest,
+            field: acked.field,
+        },
+    }
+}
+
+// "Fragments acknowledge at completion", by fragment 0's header.
+fn hear_whole(
+    answer: reassembly::effects::Answer,
+    sizes: Sizes,
+    acks: Acknowledgment,
+    received: &mut [u32],
+    number: &mut [u32],
+) -> Acknowledgment
+    requires { ⌜ (slotCount ≤ length (now received)) × (sizes .«packets_in_flight» ≤ length (now number)) ⌝ }
+    ensures { λ r. ⌜ Hearing (acksAtWhole answer sizes acks (now (received .entry)) (now (number .entry))) r (now (received .exit)) (now (number .exit)) ⌝ }
+{
+    match answer {
+        reassembly::effects::Answer::Waiting => acks,
+        reassembly::effects::Answer::Whole(message) => {
+            let header = message.header;
+            acknowledgment::steps::incoming(
+                acks,
+                received,
+                &mut number[..sizes.packets_in_flight],
+                header.number,
+                header.acked,
+                header.field,
+            )
+        }
+        reassembly::effects::Answer::Refused(_) => acks,
+    }
+}
+
+fn tell(answer: reassembly::effects::Answer) -> Answer
+    ensures { λ r. ⌜ r ≡ toldPart answer ⌝ }
+{
+    match answer {
+        reassembly::effects::Answer::Waiting => Answer::Waiting,
+        reassembly::effects::Answer::Whole(message) => Answer::Out(Item {
+            delivery: DeliveryGuarantee::Reliable,
+            ordering: OrderingGuarantee::None,
+            stream: 0,
+            length: message.length,
+        }),
+        reassembly::effects::Answer::Refused(why) => Answer::Refused(why),
+    }
+}

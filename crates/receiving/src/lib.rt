@@ -1,0 +1,131 @@
+// A datagram has come: what it makes of one end, once 1, 2 and 13 are answered. Read `receive` first. A packet and a fragment
+// have a file each, and both judge everything before they write anything. It leaves out taking items of an ordered stream,
+// which is `arranging`, and the users' call with its gate, which is `link`.
+ghost use mathlib.Core.Path.{_≡_};
+ghost use Rattle.terms.specs.declared.Gate.the-variants.{Open};
+ghost use Rattle.ends.specs.State.{lending};
+ghost use Rattle.ends.specs.Gate.{gateOf};
+ghost use Rattle.receiving.specs.declared.Answer.the-variants.{Refused};
+ghost use Rattle.receiving.specs.Receive.{refusalOf, receivedOf, Receives};
+use ends::End;
+use packet::DeliveryGuarantee;
+use packet::OrderingGuarantee;
+use packet::PacketType;
+use packet::Read;
+use terms::Refusal;
+use terms::Sizes;
+
+pub mod fragments;
+pub mod packets;
+pub mod plan;
+
+// An item that is handed out: so many bytes at the start of the output, and how it was sent. `stream` is that of an ordered or
+// sequenced item.
+pub struct Item {
+    pub delivery: DeliveryGuarantee,
+    pub ordering: OrderingGuarantee,
+    pub stream: u8,
+    pub length: usize,
+}
+
+pub enum Answer {
+    Out(Item),
+    // An ordered item waits for one before it.
+    Held,
+    // An ordered item came before.
+    Old,
+    // A newer item came on the sequenced stream.
+    Dropped,
+    // A fragment has joined its message, and more are to come.
+    Waiting,
+    Heartbeat,
+    Refused(Refusal),
+}
+
+pub struct Received {
+    pub end: End,
+    pub answer: Answer,
+}
+
+// A datagram has come. For the crates above: requires an end that the gate lets through.
+pub fn receive(
+    sizes: Sizes,
+    end: End,
+    received: &mut [u32],
+    number: &mut [u32],
+    records: &[u64],
+    payloads: &[u8],
+    slots: &mut [u32],
+    entry: &mut [u64],
+    header: &mut [u64],
+    joined: &mut [u8],
+    index: &mut [u32],
+    lengths: &mut [u16],
+    held: &mut [u8],
+    datagram: &[u8],
+    output: &mut [u8],
+) -> Received
+    requires { ⌜ gateOf sizes (lending end (now received) (now number) (now records) (now payloads) (now slots) (now entry) (now header) (now joined) (now index) (now lengths) (now held)) (now output) ≡ Open ⌝ }
+    ensures { λ r. ⌜ Receives (receivedOf sizes (lending end (now (received .entry)) (now (number .entry)) (now (records .entry)) (now (payloads .entry)) (now (slots .entry)) (now (entry .entry)) (now (header .entry)) (now (joined .entry)) (now (index .entry)) (now (lengths .entry)) (now (held .entry))) (now (datagram .entry)) (now (output .entry)))
+        r (now (received .exit)) (now (number .exit)) (now (records .entry)) (now (payloads .entry)) (now (slots .exit)) (now (entry .exit)) (now (header .exit)) (now (joined .exit)) (now (index .exit)) (now (lengths .exit)) (now (held .exit)) (now (output .exit)) ⌝ }
+{
+    let read = packet::read_headers(sizes.version, datagram);
+    let Read::Found { headers, at } = read else {
+        return refused(end, refusal_of(read));
+    };
+    if sizes.fragment_size < datagram.len() - at {
+        return refused(end, Refusal::TooLong);
+    }
+    let payload = &datagram[at..];
+    let standard = headers.standard;
+    let packet_type = standard.packet_type;
+    match packet_type {
+        PacketType::Packet => packets::accept(
+            sizes,
+            end,
+            received,
+            number,
+            index,
+            lengths,
+            held,
+            headers,
+            payload,
+            output,
+        ),
+        PacketType::Fragment => fragments::join(
+            sizes,
+            end,
+            received,
+            number,
+            slots,
+            entry,
+            header,
+            joined,
+            headers,
+            payload,
+            output,
+        ),
+        PacketType::Heartbeat => Received {
+            end,
+            answer: Answer::Heartbeat,
+        },
+    }
+}
+
+pub fn refused(end: End, why: Refusal) -> Received
+    ensures { λ r. ⌜ r ≡ record { end = end; answer = Refused why } ⌝ }
+{
+    Received {
+        end,
+        answer: Answer::Refused(why),
+    }
+}
+
+fn refusal_of(read: Read) -> Refusal
+    ensures { λ r. ⌜ r ≡ refusalOf read ⌝ }
+{
+    match read {
+        Read::Found { .. } => Refusal::BadHeader,
+        Read::Refused(why) => why,
+    }
+}
