@@ -37,23 +37,23 @@ use Rattle.acknowledgment.specs.declared.DroppedPackets.{DroppedPackets}
 use Rattle.acknowledgment.specs.declared.DroppedPackets.the-variants.{Nothing, Packet, Refused as NotDropped}
 use Rattle.acknowledgment.proofs.Gates.{Lent, lent-means}
 
-abbrev flightOf : Sizes → State → Flight
+abbrev pub flightOf : Sizes → State → Flight
 flightOf z s = record { number = tableOf z (s .number); records = s .records; bytes = s .bytes }
 
-record Good (z : Sizes) (s : State) : Type 0 where
-  lengths : Lent z (s .received) (s .number) (s .records) (s .bytes)
-  home : Home slotCount (slotsOf (s .received))
-  flying : Sound (slotOf z) (flightOf z s)
-  next : s .counters .«sequence_number» .0 < 65536
+pub record Good (z : Sizes) (s : State) : Type 0 where
+  pub lengths : Lent z (s .received) (s .number) (s .records) (s .bytes)
+  pub home : Home slotCount (slotsOf (s .received))
+  pub flying : Sound (slotOf z) (flightOf z s)
+  pub next : s .counters .«sequence_number» .0 < 65536
 
 module _ (z : Sizes) (s : State) (g : Good z s) where
-  good-lent : isLent z s ≡ true
+  pub good-lent : isLent z s ≡ true
   unfolding lent flightLent
   good-lent =
       let l = g .lengths in
       rw (le-leb slotCount (length (s .received)) (l .slots), le-leb (z .«packets_in_flight») (length (s .number)) (l .numbers), le-leb (z .«packets_in_flight») (length (s .records)) (l .recorded), le-leb (z .«packets_in_flight» * slotOf z) (length (s .bytes)) (l .room))
 
-  good-sound : isSound z s ≡ true
+  pub good-sound : isSound z s ≡ true
   unfolding sound
   good-sound = rw (home-apart slotCount (slotsOf (s .received)) (g .home)) (g .flying .not-13)
 
@@ -69,14 +69,14 @@ module _ (z : Sizes) (s : State) (r : inRange z ≡ true) (g : Good z s) where
   n = z .«packets_in_flight»
 
   module _ (number acked field : ℕ) where
-    abbrev come : State
+    abbrev pub come : State
     come = lending (heard (s .counters) (s .received) number acked) (recorded (s .counters .received .0) (s .received) number) (unacked z (s .number) acked field) (s .records) (s .bytes)
 
     comes-is : called z s (comes number acked field) ≡ come
     unfolding called incomingOf
     comes-is = rw (r, good-lent z s g, good-sound z s g)
 
-    good-come : Good z come
+    pub good-come : Good z come
     good-come =
         let slots = slotsOf (s .received) in
         let l = g .lengths in
@@ -98,10 +98,10 @@ module _ (z : Sizes) (s : State) (r : inRange z ≡ true) (g : Good z s) where
     abbrev word : ℕ
     word = packed sent (length payload)
 
-    abbrev go : State
+    abbrev pub go : State
     go = lending (sentOne (s .counters)) (s .received) (set (s .number) k (s .counters .«sequence_number» .0)) (set (s .records) k word) (paste (s .bytes) (k * slotOf z) payload (length payload))
 
-    good-go : full (s .counters .«sequence_number» .0) (tableOf z (s .number)) ≡ false → length payload ≤ z .«max_fragments» * z .«fragment_size» → Good z go
+    pub good-go : full (s .counters .«sequence_number» .0) (tableOf z (s .number)) ≡ false → length payload ≤ z .«max_fragments» * z .«fragment_size» → Good z go
     good-go roomy few =
         let l = g .lengths in
         let range = in-range-means z r in
@@ -136,7 +136,7 @@ module _ (z : Sizes) (s : State) (r : inRange z ≡ true) (g : Good z s) where
         (λ f. rw (r, good-lent z s g, good-sound z s g, e, q, f) g)
         (λ f. rw (r, good-lent z s g, good-sound z s g, e, q, f) (good-go f (ltb-false (z .«max_fragments» * z .«fragment_size») (length payload) q)))))
 
-  good-drop : (d : Dropped) → Good z (lending (s .counters) (s .received) (numberLeft (OneDrop d) (tableOf z (s .number)) ++ drop n (s .number)) (s .records) (s .bytes))
+  pub good-drop : (d : Dropped) → Good z (lending (s .counters) (s .received) (numberLeft (OneDrop d) (tableOf z (s .number)) ++ drop n (s .number)) (s .records) (s .bytes))
   good-drop d =
       let l = g .lengths in
       let q = fronted n (numberLeft (OneDrop d) (tableOf z (s .number))) (drop n (s .number)) (length-set (tableOf z (s .number)) (firstPlace (d .number .0) (tableOf z (s .number))) noNumber ∙ whole z s g) in
@@ -180,7 +180,7 @@ module _ (z : Sizes) (a b : ℕ) (records bytes : List ℕ) (r : inRange z ≡ t
   table-long : length (tableOf z (fresh b)) ≡ z .«packets_in_flight»
   table-long = length-take-le (z .«packets_in_flight») (fresh b) (lens .numbers)
 
-  good-fresh : Good z (freshEnd a b records bytes)
+  pub good-fresh : Good z (freshEnd a b records bytes)
   good-fresh =
       let l = lens in
       let long = table-long in
