@@ -20,6 +20,22 @@ pub struct End {
     pub sequencing: SequencingStreams,
 }
 
+// The counters of a fresh end.
+pub fn fresh() -> End
+    ensures { λ r. ⌜ r ≡ freshEnd ⌝ }
+{
+    End {
+        acks: Acknowledgment {
+            sequence_number: PacketNumber(0),
+            remote_ack_sequence_num: PacketNumber(65535),
+            received: PacketNumber(0),
+        },
+        reassembly: PacketNumber(0),
+        ordering: OrderingStreams::none(),
+        sequencing: SequencingStreams::none(),
+    }
+}
+
 // A fresh end: nothing received, in flight or put together, and no streams. What else is lent may hold anything.
 pub fn new(received: &mut [u32], number: &mut [u32], slots: &mut [u32]) -> End
     ensures { λ r. ⌜ r ≡ freshEnd ⌝ }
