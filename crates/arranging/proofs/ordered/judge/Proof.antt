@@ -3,10 +3,11 @@ use Rattle.arranging.proofs.ordered.judge.Statement.{statement}
 use Rattle.arranging.proofs.ordered.judge.Tie as tie
 use native.Mathlib.Omega.{arith}
 use native.Mathlib.Nat.{add-sub-cancel-left}
-use Prim.Native.Nat.{ℕ, _+_, _*_, _<_, _≤_}
+use Prim.Native.Nat.{ℕ, _+_, _-_, _*_, _<_, _≤_}
 use mathlib.Core.Path.{_≡_, refl, sym, _∙_}
-use lib.ListN.{length}
+use lib.ListN.{length, take, drop}
 use denote.Ref.{now}
+use Rattle.ordering.specs.Arrange.{planOf}
 use Rattle.arranging.proofs.Parts.{part-length, place-lt, plan-none, plan-on}
 
 place : (c : tie.Else1) → c .before .place .result < 4
@@ -15,6 +16,10 @@ place c =
     let e : length (s .args .streams .known .ids) ≡ 4 = search needs in
     rw (c .before .place .ensures)
     (place-lt (s .args .streams .known) (s .args .id) (s .pre .0) (omega (arith, s .pre .0)) (λ q. c .if1 .left (c .before .place .ensures ∙ q)))
+
+-- what is judged is the stream's own part of the table
+judged : (c : tie.After-judge) → c .judge .result ≡ planOf (c .before .before .at .result) (take (c .before .before .before .before .place .result * 64 + 64 - c .before .before .before .before .place .result * 64) (drop (c .before .before .before .before .place .result * 64) (now (c .before .before .before .before .before .before .before .args .index)))) (c .before .before .before .before .before .before .before .args .item .0)
+judged c = c .judge .ensures
 
 place-requires : tie.Need-place-requires
 place-requires c κs = search needs
@@ -64,7 +69,7 @@ returns-2 : tie.Need-returns-2
 returns-2 c =
     let s = c .before .before .before .before .before .before .before in
     let w = plan-on (s .args .streams) (now (s .args .index)) (s .args .id) (s .args .item .0) (c .before .before .before .before .place .result) (sym (c .before .before .before .before .place .ensures)) (c .before .before .before .if1 .left) in
-    rw (w, c .judge .ensures, c .before .before .at .ensures, add-sub-cancel-left)
+    rw (w, judged c, c .before .before .at .ensures, add-sub-cancel-left)
 
 pub judge-spec : {M : Type 1} → statement M
 judge-spec =
