@@ -19,7 +19,7 @@ use lib.Dec.{eqb, ltb}
 use native.Mathlib.Nat.{mul-le-mul, mul-le-mul-right}
 use borrow.Author.Tests.{lt-ltb, le-ltb, eq-eqb, ne-eqb}
 use Rattle.laws.proofs.Slots.{slot-end}
-use Rattle.flight.specs.Places.{full}
+use Rattle.flight.specs.Places.{placeOf, full}
 use Rattle.flight.proofs.Room.{place-le, full-place}
 use Rattle.acknowledgment.specs.Gate.{tooLong}
 use Rattle.acknowledgment.specs.Calls.{isLent, isSound, outgoingOf}
@@ -55,15 +55,19 @@ few c = le-ltb _ _ (c .if5 .left)
 some : (c : tie.Else2) → 1 ≤ length (tableOf (c .before .before .before .before .before .before .before .before .before .before .before .before .args .sizes) (now (c .before .before .before .before .before .before .before .before .before .before .before .before .args .number)))
 some c = omega (arith, whole c, sizes (c .before .before .before .before .before) .n .0)
 
+-- the place is that of the local number
+placed : (c : tie.After-place) → c .place .result ≡ placeOf (c .before .before .before .before .before .before .before .before .before .before .before .before .before .before .before .before .before .before .before .before .before .before .before .before .before .before .before .args .state .«sequence_number» .0) (tableOf (c .before .before .before .before .before .before .before .before .before .before .before .before .before .before .before .before .before .before .before .before .before .before .before .before .before .before .before .args .sizes) (now (c .before .before .before .before .before .before .before .before .before .before .before .before .before .before .before .before .before .before .before .before .before .before .before .before .before .before .before .args .number)))
+placed c = c .place .ensures
+
 within : (c : tie.Else6) → c .before .place .result < c .before .before .before .before .before .before .before .before .before .before .before .before .before .before .before .before .before .before .before .before .before .before .before .before .before .before .before .before .args .sizes .«packets_in_flight»
 within c =
     let le = place-le (c .before .before .before .before .before .before .before .before .before .before .before .before .before .before .before .before .before .before .before .before .before .before .before .before .before .before .before .before .args .state .«sequence_number» .0) (tableOf (c .before .before .before .before .before .before .before .before .before .before .before .before .before .before .before .before .before .before .before .before .before .before .before .before .before .before .before .before .args .sizes) (now (c .before .before .before .before .before .before .before .before .before .before .before .before .before .before .before .before .before .before .before .before .before .before .before .before .before .before .before .before .args .number))) (some (c .before .before .before .before .before .before .before .before .before .before .before .before .before .before .before .before)) in
-    omega (arith, c .if6 .left, le, c .before .place .ensures, whole (c .before .before .before .before .before .before .before .before .before .before .before .before .before .before .before .before))
+    omega (arith, c .if6 .left, le, placed (c .before), whole (c .before .before .before .before .before .before .before .before .before .before .before .before .before .before .before .before))
 
 fullness : (c : tie.After-place) → full (c .before .before .before .before .before .before .before .before .before .before .before .before .before .before .before .before .before .before .before .before .before .before .before .before .before .before .before .args .state .«sequence_number» .0) (tableOf (c .before .before .before .before .before .before .before .before .before .before .before .before .before .before .before .before .before .before .before .before .before .before .before .before .before .before .before .args .sizes) (now (c .before .before .before .before .before .before .before .before .before .before .before .before .before .before .before .before .before .before .before .before .before .before .before .before .before .before .before .args .number))) ≡ eqb (c .place .result) (c .before .before .before .before .before .before .before .before .before .before .before .before .before .before .before .before .before .before .before .before .before .before .before .before .before .before .before .args .sizes .«packets_in_flight»)
 fullness c =
     full-place (c .before .before .before .before .before .before .before .before .before .before .before .before .before .before .before .before .before .before .before .before .before .before .before .before .before .before .before .args .state .«sequence_number» .0) (tableOf (c .before .before .before .before .before .before .before .before .before .before .before .before .before .before .before .before .before .before .before .before .before .before .before .before .before .before .before .args .sizes) (now (c .before .before .before .before .before .before .before .before .before .before .before .before .before .before .before .before .before .before .before .before .before .before .before .before .before .before .before .args .number))) (some (c .before .before .before .before .before .before .before .before .before .before .before .before .before .before .before))
-    ∙ rw (← c .place .ensures, whole (c .before .before .before .before .before .before .before .before .before .before .before .before .before .before .before))
+    ∙ rw (← placed c, whole (c .before .before .before .before .before .before .before .before .before .before .before .before .before .before .before))
 
 in-range-requires : tie.Need-in-range-requires
 in-range-requires c κs = search needs
