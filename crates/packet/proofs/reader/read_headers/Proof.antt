@@ -3,11 +3,15 @@ use borrow.Author.Needs.{needs}
 use Rattle.packet.proofs.reader.read_headers.Statement.{statement}
 use Rattle.packet.proofs.reader.read_headers.Tie as tie
 use mathlib.Core.Path.{refl}
-use Prim.Native.Nat.{_<_}
+use Prim.Native.Nat.{_<_, _≤_}
 use lib.ListN.{length}
 use native.Mathlib.Omega.{arith}
 use borrow.Author.Tests.{lt-ltb, le-ltb}
 use Rattle.packet.specs.Read.{readOf}
+
+-- past the first test the standard header is whole
+whole : (c : tie.Else1) → 5 ≤ length (c .before .before .args .datagram .now)
+whole c = omega arith
 
 returns : tie.Need-returns
 unfolding readOf
@@ -22,7 +26,7 @@ returns-2 : tie.Need-returns-2
 unfolding readOf
 returns-2 c =
     let u = c .before .is-unknown in
-    rw (le-ltb _ _ (c .before .before .if1 .left), ← u .ensures, c .if2 .taken)
+    rw (le-ltb _ _ (whole (c .before .before)), ← u .ensures, c .if2 .taken)
 
 read-standard-header-requires : tie.Need-read-standard-header-requires
 read-standard-header-requires c κs = search needs
@@ -42,7 +46,7 @@ returns-3 c =
     let u = c .before .before .before .before .before .is-unknown in
     let m = c .before .is-misfit in
     rw (
-      le-ltb _ _ (c .before .before .before .before .before .before .if1 .left),
+      le-ltb _ _ (whole (c .before .before .before .before .before .before)),
       ← u .ensures,
       c .before .before .before .before .if2 .left,
       ← c .before .before .before .read-standard-header .ensures,
@@ -60,7 +64,7 @@ returns-4 c =
     let u = c .before .before .before .before .before .before .is-unknown in
     let m = c .before .before .is-misfit in
     rw (
-      le-ltb _ _ (c .before .before .before .before .before .before .before .if1 .left),
+      le-ltb _ _ (whole (c .before .before .before .before .before .before .before)),
       ← u .ensures,
       c .before .before .before .before .before .if2 .left,
       ← c .before .before .before .before .read-standard-header .ensures,
