@@ -2,9 +2,10 @@
 --     ..-end      before the first turn
 --     the others  a turn, by what it reads at place i - 1
 use mathlib.Core.Path.{_≡_, refl, ap, _∙_}
-use mathlib.Core.Bool.{false, cond, _&&_, _||_}
+use mathlib.Core.Bool.{Bool, true, false, cond, _&&_, _||_}
 use mathlib.Core.List.{List, [], _∷_}
-use Prim.Native.Nat.{ℕ, suc, _-_, _≤_, _<_}
+use Prim.Native.Nat.{ℕ, zero, suc, _+_, _-_, _≤_, _<_}
+use native.Mathlib.Omega.{arith}
 use lib.ListN.{length, getD, drop}
 use lib.Seq.{drop-length}
 use lib.Dec.{ltb}
@@ -13,6 +14,7 @@ use Rattle.laws.proofs.Lists.{drop-back}
 use Rattle.sequence_buffer.specs.Buffer.{none}
 use Rattle.flight.specs.Entry.{lengthOf}
 use Rattle.flight.specs.Places.{countOf, overLong, firstFree}
+use Rattle.flight.specs.AtHome.{FreeBefore}
 use Rattle.flight.specs.Lost.{isLost, leastLost}
 
 count-cons : (x : ℕ) (xs : List ℕ) → countOf (x ∷ xs) ≡ cond (ltb x 65536) (suc (countOf xs)) (countOf xs)
@@ -80,3 +82,27 @@ module _ (l : List ℕ) (i : ℕ) (some : 0 < i) (within : i ≤ length l) where
 
   pub least-turn : (remote : ℕ) → leastLost remote (drop (i - 1) l) ≡ cond (ltb (getD l (i - 1) 0) (leastLost remote (drop i l)) && isLost remote (getD l (i - 1) 0)) (getD l (i - 1) 0) (leastLost remote (drop i l))
   least-turn remote = rw (drop-back l i some within, least-cons)
+
+no-lost : (remote e : ℕ) → 65536 ≤ e → isLost remote e ≡ false
+unfolding isLost
+no-lost remote e h = rw (le-ltb e 65536 h)
+
+-- places without a number are passed
+free-places : (remote : ℕ) (l : List ℕ) (i m : ℕ) → m ≤ i → i ≤ length l → ((j : ℕ) → i ≤ j + m → j < i → 65536 ≤ getD l j 0)
+    → leastLost remote (drop (i - m) l) ≡ leastLost remote (drop i l)
+free-places remote l i zero h within free = ap (λ (k : ℕ). leastLost remote (drop k l)) (let e : i - 0 ≡ i = omega arith in e)
+free-places remote l i (suc m) h within free =
+    let k = i - m in
+    let e : i - suc m ≡ k - 1 = omega arith in
+    let rest = free-places remote l i m (omega arith) within (λ j p q. free j (omega arith) q) in
+    ap (λ (x : ℕ). leastLost remote (drop x l)) e
+    ∙ least-turn l k (omega arith) (omega arith) remote
+    ∙ rw (no-lost remote (getD l (k - 1) 0) (free (k - 1) (omega arith) (omega arith))) (passed (ltb (getD l (k - 1) 0) (leastLost remote (drop k l))) (getD l (k - 1) 0) (leastLost remote (drop k l)))
+    ∙ rest
+  where
+    passed : (b : Bool) (x y : ℕ) → cond (b && false) x y ≡ y
+    passed true x y = refl
+    passed false x y = refl
+
+pub least-free : (remote : ℕ) (l : List ℕ) (i : ℕ) → i ≤ length l → FreeBefore i l → leastLost remote (drop (i - 32) l) ≡ leastLost remote (drop i l)
+least-free remote l i within f = free-places remote l i 32 (f .whole) within (f .free)

@@ -17,3 +17,8 @@ pub record AtHome (room : ℕ) (number records : List ℕ) : Type 0 where
 pub record PlaceHome (room lap last : ℕ) (number records : List ℕ) (place : ℕ) : Type 0 where
   pub step : InStep lap last place (getD number place 0)
   pub fits : getD number place 0 < 65536 → lengthOf (getD records place 0) ≤ room
+
+-- the 32 places before one have no number
+pub record FreeBefore (end : ℕ) (number : List ℕ) : Type 0 where
+  pub whole : 32 ≤ end
+  pub free : (j : ℕ) → end ≤ j + 32 → j < end → 65536 ≤ getD number j 0

@@ -1,7 +1,9 @@
 // Which packets are given up as dropped: one a call, the least number first.
 ghost use mathlib.Core.Path.{_≡_};
-ghost use Prim.Native.Nat.{_+_, _*_, _≤_};
+ghost use mathlib.Core.Bool.{true};
+ghost use Prim.Native.Nat.{_+_, _*_, _≤_, _<_};
 ghost use lib.ListN.{length};
+ghost use Rattle.flight.specs.AtHome.{FreeBefore};
 ghost use Rattle.flight.specs.Lost.{isLost, leastLost, Table, dropOf, numberLeft, outputLeft};
 use crate::SentPacket;
 use serial::PacketNumber;
@@ -56,14 +58,29 @@ fn least_lost(number: &[u32], remote: PacketNumber) -> u32
     let mut least = sequence_buffer::NONE;
     let mut i = number.len();
     while 0 < i {
-        i -= 1;
-        if number[i] < least {
-            if is_lost(number[i], remote) {
-                least = number[i];
+        if is_free_before(number, i) {
+            i -= keys::parts::PART;
+        } else {
+            i -= 1;
+            if number[i] < least {
+                if is_lost(number[i], remote) {
+                    least = number[i];
+                }
             }
         }
     }
     least
+}
+
+// The part that ends before a place is one of the table's and has no number.
+fn is_free_before(number: &[u32], end: usize) -> bool
+    requires { ⌜ (0 < end) × (end ≤ length (now number)) ⌝ }
+    ensures { λ r. ⌜ (r ≡ true → FreeBefore end (now (number .entry))) ⌝ }
+{
+    if end % keys::parts::PART == 0 {
+        return keys::parts::none_in(number, end - keys::parts::PART);
+    }
+    false
 }
 
 // An entry is less than the remote acknowledged number and more than 32 before it.

@@ -1,16 +1,16 @@
+-- Each key passed stands at its remainder.
 use borrow.Author.Needs.{needs}
 use Rattle.keys.proofs.at_home.Statement.{statement}
 use Rattle.keys.proofs.at_home.Tie as tie
 use mathlib.Core.Path.{_≡_, refl, sym, ap, _∙_}
 use mathlib.Core.Logic.{⊎-elim}
 use Prim.Native.Nat.{ℕ, _-_, _%_, _<_, _≤_}
-use native.Mathlib.Nat.{not-suc-le-zero}
 use native.Mathlib.Omega.{arith}
 use borrow.Author.Count.{below-more}
 use lib.ListN.{length, getD}
 use denote.Ref.{now}
 use Rattle.laws.proofs.Cases.{both}
-use Rattle.keys.proofs.Twice.{all-apart}
+use Rattle.keys.proofs.Homes.{home-once}
 
 abbrev Inv-loop : tie.InvT-loop
 Inv-loop keys i₀ i = (i ≤ length keys) × ((j : ℕ) → j < i → getD keys j 0 < 65536 → getD keys j 0 % length keys ≡ j)
@@ -18,8 +18,11 @@ Inv-loop keys i₀ i = (i ≤ length keys) × ((j : ℕ) → j < i → getD keys
 abbrev μ-loop : tie.MeasureT-loop
 μ-loop keys i₀ i = length keys - i
 
+stepped-requires : tie.Need-stepped-requires Inv-loop μ-loop
+stepped-requires c κs = search needs
+
 loop-holds : tie.Need-loop-holds Inv-loop μ-loop
-loop-holds c = (omega arith, λ j h. absurd (not-suc-le-zero h))
+loop-holds c = (c .stepped .ensures .within, c .stepped .ensures .own)
 
 mul-key : tie.Need-mul-key Inv-loop μ-loop
 mul-key c = search needs
@@ -45,7 +48,8 @@ loop-less c = search needs
 loop-again : tie.Need-loop-again Inv-loop μ-loop
 loop-again c =
     let l = c .before .before .before .loop in
-    let home : ℕ → Type 0 = λ (j : ℕ). getD (now (c .before .before .before .before .args .keys)) j 0 < 65536 → getD (now (c .before .before .before .before .args .keys)) j 0 % length (now (c .before .before .before .before .args .keys)) ≡ j in
+    let keys = now (c .before .before .before .before .before .before .args .keys) in
+    let home : ℕ → Type 0 = λ (j : ℕ). getD keys j 0 < 65536 → getD keys j 0 % length keys ≡ j in
     ⊎-elim
     (λ w. (omega arith, below-more home (l .i) (l .inv .1) (λ k. w .1 .left)))
     (λ w. (omega arith, below-more home (l .i) (l .inv .1) (λ k. absurd (omega arith))))
@@ -53,13 +57,9 @@ loop-again c =
 
 returns-2 : tie.Need-returns-2 Inv-loop μ-loop
 returns-2 c =
-    let keys = now (c .before .before .args .keys) in
+    let keys = now (c .before .before .before .before .args .keys) in
     let home = c .before .loop .inv .1 in
-    λ e.
-    all-apart keys
-    (λ i j before within key same.
-    let z : i ≡ j = sym (home i (omega arith) key) ∙ ap (λ (x : ℕ). x % length keys) same ∙ home j (omega arith) (omega arith) in
-    omega arith)
+    λ e. home-once keys (record { own = λ j h. home j (omega arith) })
 
 pub at-home-spec : {M : Type 1} → statement M
 at-home-spec =
@@ -67,6 +67,7 @@ at-home-spec =
     (tie.spec
     Inv-loop
     μ-loop
+    stepped-requires
     loop-holds
     mul-key
     shared-slice-read-key
