@@ -44,7 +44,7 @@ pub fn is_sound(sizes: Sizes, received: &[u32], number: &[u32], records: &[u64])
     if keys::has_twice(&received[..received::SLOTS]) {
         return false;
     }
-    flight::places::is_sound(
+    flight::home::is_sound(
         &number[..sizes.packets_in_flight],
         records,
         16 * sizes.fragment_size,

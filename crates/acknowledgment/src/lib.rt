@@ -214,7 +214,7 @@ pub fn packets_in_flight(sizes: Sizes, number: &[u32], records: &[u64]) -> InFli
         return InFlight::Refused(Refusal::BadStorage);
     }
     let table = &number[..sizes.packets_in_flight];
-    if !flight::places::is_sound(table, records, 16 * sizes.fragment_size) {
+    if !flight::home::is_sound(table, records, 16 * sizes.fragment_size) {
         return InFlight::Refused(Refusal::BadState);
     }
     InFlight::Packets(flight::places::count(table))

@@ -4,17 +4,20 @@
 use mathlib.Core.Path.{_≡_, refl, ap, _∙_}
 use mathlib.Core.Bool.{Bool, true, false, cond, _&&_, _||_}
 use mathlib.Core.List.{List, [], _∷_}
+use mathlib.Core.Logic.{⊎-elim}
 use Prim.Native.Nat.{ℕ, zero, suc, _+_, _-_, _≤_, _<_}
 use native.Mathlib.Omega.{arith}
 use lib.ListN.{length, getD, drop}
 use lib.Seq.{drop-length}
-use lib.Dec.{ltb}
-use borrow.Author.Tests.{lt-ltb, le-ltb}
+use lib.Dec.{ltb, leb}
+use borrow.Author.Tests.{lt-ltb, le-ltb, lt-leb}
+use Rattle.laws.proofs.Cases.{lt-or-le}
 use Rattle.laws.proofs.Lists.{drop-back}
+use Rattle.serial.specs.Order.{greater, back}
 use Rattle.sequence_buffer.specs.Buffer.{none}
 use Rattle.flight.specs.Entry.{lengthOf}
 use Rattle.flight.specs.Places.{countOf, overLong, firstFree}
-use Rattle.flight.specs.AtHome.{FreeBefore}
+use Rattle.flight.specs.AtHome.{NoneLostBefore}
 use Rattle.flight.specs.Lost.{isLost, leastLost}
 
 count-cons : (x : ℕ) (xs : List ℕ) → countOf (x ∷ xs) ≡ cond (ltb x 65536) (suc (countOf xs)) (countOf xs)
@@ -83,26 +86,42 @@ module _ (l : List ℕ) (i : ℕ) (some : 0 < i) (within : i ≤ length l) where
   pub least-turn : (remote : ℕ) → leastLost remote (drop (i - 1) l) ≡ cond (ltb (getD l (i - 1) 0) (leastLost remote (drop i l)) && isLost remote (getD l (i - 1) 0)) (getD l (i - 1) 0) (leastLost remote (drop i l))
   least-turn remote = rw (drop-back l i some within, least-cons)
 
-no-lost : (remote e : ℕ) → 65536 ≤ e → isLost remote e ≡ false
+-- an entry that is no number, or is near the remote acknowledged number or after it, is not lost
+pub no-lost : (remote e : ℕ) → 65536 ≤ e → isLost remote e ≡ false
 unfolding isLost
 no-lost remote e h = rw (le-ltb e 65536 h)
 
--- places without a number are passed
-free-places : (remote : ℕ) (l : List ℕ) (i m : ℕ) → m ≤ i → i ≤ length l → ((j : ℕ) → i ≤ j + m → j < i → 65536 ≤ getD l j 0)
+and-no : (b : Bool) → (b && false) ≡ false
+and-no true = refl
+and-no false = refl
+
+pub near-kept : (remote e : ℕ) → back remote e < 33 → isLost remote e ≡ false
+unfolding isLost
+near-kept remote e h = rw (le-ltb 32 (back remote e) (omega arith), and-no (greater remote e), and-no (ltb e 65536))
+
+not-before : (remote e : ℕ) → remote < 65536 → e < 65536 → 32768 < back remote e → greater remote e ≡ false
+unfolding greater
+not-before remote e r v h =
+    ⊎-elim
+    (λ w. rw (le-ltb e remote (omega arith), le-ltb 32768 (e - remote) (omega arith), and-no (ltb remote e)))
+    (λ w. rw (lt-leb (remote - e) 32768 (omega arith), le-ltb remote e w, and-no (ltb e remote)))
+    (lt-or-le remote e)
+
+pub after-kept : (remote e : ℕ) → remote < 65536 → e < 65536 → 32768 < back remote e → isLost remote e ≡ false
+unfolding isLost
+after-kept remote e r v h = rw (not-before remote e r v h, and-no (ltb e 65536))
+
+-- places of which none is lost are passed
+kept-places : (remote : ℕ) (l : List ℕ) (i m : ℕ) → m ≤ i → i ≤ length l → ((j : ℕ) → i ≤ j + m → j < i → isLost remote (getD l j 0) ≡ false)
     → leastLost remote (drop (i - m) l) ≡ leastLost remote (drop i l)
-free-places remote l i zero h within free = ap (λ (k : ℕ). leastLost remote (drop k l)) (let e : i - 0 ≡ i = omega arith in e)
-free-places remote l i (suc m) h within free =
+kept-places remote l i zero h within kept = ap (λ (k : ℕ). leastLost remote (drop k l)) (let e : i - 0 ≡ i = omega arith in e)
+kept-places remote l i (suc m) h within kept =
     let k = i - m in
     let e : i - suc m ≡ k - 1 = omega arith in
-    let rest = free-places remote l i m (omega arith) within (λ j p q. free j (omega arith) q) in
+    let rest = kept-places remote l i m (omega arith) within (λ j p q. kept j (omega arith) q) in
     ap (λ (x : ℕ). leastLost remote (drop x l)) e
     ∙ least-turn l k (omega arith) (omega arith) remote
-    ∙ rw (no-lost remote (getD l (k - 1) 0) (free (k - 1) (omega arith) (omega arith))) (passed (ltb (getD l (k - 1) 0) (leastLost remote (drop k l))) (getD l (k - 1) 0) (leastLost remote (drop k l)))
-    ∙ rest
-  where
-    passed : (b : Bool) (x y : ℕ) → cond (b && false) x y ≡ y
-    passed true x y = refl
-    passed false x y = refl
+    ∙ rw (kept (k - 1) (omega arith) (omega arith), and-no (ltb (getD l (k - 1) 0) (leastLost remote (drop k l)))) rest
 
-pub least-free : (remote : ℕ) (l : List ℕ) (i : ℕ) → i ≤ length l → FreeBefore i l → leastLost remote (drop (i - 32) l) ≡ leastLost remote (drop i l)
-least-free remote l i within f = free-places remote l i 32 (f .whole) within (f .free)
+pub least-kept : (remote : ℕ) (l : List ℕ) (i : ℕ) → i ≤ length l → NoneLostBefore remote i l → leastLost remote (drop (i - 32) l) ≡ leastLost remote (drop i l)
+least-kept remote l i within f = kept-places remote l i 32 (f .whole) within (f .kept)

@@ -7,6 +7,7 @@ use lib.ListN.{getD}
 use Rattle.keys.specs.Home.{InStep, Home}
 use Rattle.flight.specs.Entry.{lengthOf}
 use Rattle.flight.specs.Places.{overLong}
+use Rattle.flight.specs.Lost.{isLost}
 
 -- each number stands at its own place, and no recorded length is over its slot
 pub record AtHome (room : ℕ) (number records : List ℕ) : Type 0 where
@@ -18,7 +19,7 @@ pub record PlaceHome (room lap last : ℕ) (number records : List ℕ) (place : 
   pub step : InStep lap last place (getD number place 0)
   pub fits : getD number place 0 < 65536 → lengthOf (getD records place 0) ≤ room
 
--- the 32 places before one have no number
-pub record FreeBefore (end : ℕ) (number : List ℕ) : Type 0 where
+-- no number at the 32 places before one is lost
+pub record NoneLostBefore (remote end : ℕ) (number : List ℕ) : Type 0 where
   pub whole : 32 ≤ end
-  pub free : (j : ℕ) → end ≤ j + 32 → j < end → 65536 ≤ getD number j 0
+  pub kept : (j : ℕ) → end ≤ j + 32 → j < end → isLost remote (getD number j 0) ≡ false

@@ -7,6 +7,7 @@ ghost use Prim.Native.Nat.{ℕ, _+_, _%_, _≤_, _<_};
 ghost use lib.ListN.{length, getD};
 ghost use Rattle.flight.specs.AtHome.{AtHome, PlaceHome};
 ghost use Rattle.flight.specs.Entry.{lengthOf};
+ghost use Rattle.flight.specs.Places.{sound};
 use serial::PacketNumber;
 
 // Each number is at home and no length is over its slot: not 13. A `false` says nothing. `next` is the number that is
@@ -83,4 +84,63 @@ fn do_fit(records: &[u64], at: usize, room: usize) -> bool
         k += 1;
     }
     all < (room as u64 + 1) * 4294967296
+}
+
+// Not 13, as `places::is_sound` tells it, quickly where the table is at home. Requires a record for each place.
+pub fn is_sound(number: &[u32], records: &[u64], room: usize) -> bool
+    requires { ⌜ length (now number) ≤ length (now records) ⌝ }
+    ensures { λ r. ⌜ r ≡ sound room (now (number .entry)) (now (records .entry)) ⌝ }
+{
+    if is_seen_home(number, records, room) {
+        return true;
+    }
+    crate::places::is_sound(number, records, room)
+}
+
+// The first number that is in flight says which are the last ones.
+fn is_seen_home(number: &[u32], records: &[u64], room: usize) -> bool
+    requires { ⌜ length (now number) ≤ length (now records) ⌝ }
+    ensures { λ r. ⌜ (r ≡ true → AtHome room (now (number .entry)) (now (records .entry))) ⌝ }
+{
+    if number.len() < 1 {
+        return false;
+    }
+    if 256 < number.len() {
+        return false;
+    }
+    if 16384 < room {
+        return false;
+    }
+    is_home(number, records, room, PacketNumber(first_number(number)))
+}
+
+fn first_number(number: &[u32]) -> u16 {
+    let mut i: usize = 0;
+    while i < number.len() {
+        if is_part_free(number, i) {
+            i += keys::parts::PART;
+        } else {
+            if number[i] < 65536 {
+                return number[i] as u16;
+            }
+            i += 1;
+        }
+    }
+    0
+}
+
+// A part starts here, and has no number.
+fn is_part_free(number: &[u32], at: usize) -> bool
+    ensures { λ r. ⌜ (r ≡ true → at + 32 ≤ length (now (number .entry))) ⌝ }
+{
+    if at % keys::parts::PART != 0 {
+        return false;
+    }
+    if number.len() < keys::parts::PART {
+        return false;
+    }
+    if number.len() - keys::parts::PART < at {
+        return false;
+    }
+    keys::parts::none_in(number, at)
 }

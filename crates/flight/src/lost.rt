@@ -1,9 +1,9 @@
 // Which packets are given up as dropped: one a call, the least number first.
 ghost use mathlib.Core.Path.{_≡_};
-ghost use mathlib.Core.Bool.{true};
-ghost use Prim.Native.Nat.{_+_, _*_, _≤_, _<_};
-ghost use lib.ListN.{length};
-ghost use Rattle.flight.specs.AtHome.{FreeBefore};
+ghost use mathlib.Core.Bool.{true, false};
+ghost use Prim.Native.Nat.{ℕ, _+_, _*_, _≤_, _<_};
+ghost use lib.ListN.{length, getD};
+ghost use Rattle.flight.specs.AtHome.{NoneLostBefore};
 ghost use Rattle.flight.specs.Lost.{isLost, leastLost, Table, dropOf, numberLeft, outputLeft};
 use crate::SentPacket;
 use serial::PacketNumber;
@@ -58,7 +58,7 @@ fn least_lost(number: &[u32], remote: PacketNumber) -> u32
     let mut least = sequence_buffer::NONE;
     let mut i = number.len();
     while 0 < i {
-        if is_free_before(number, i) {
+        if is_none_lost_before(number, i, remote) {
             i -= keys::parts::PART;
         } else {
             i -= 1;
@@ -72,15 +72,47 @@ fn least_lost(number: &[u32], remote: PacketNumber) -> u32
     least
 }
 
-// The part that ends before a place is one of the table's and has no number.
-fn is_free_before(number: &[u32], end: usize) -> bool
+// The part that ends before a place is one of the table's, and it is easily seen that none of its numbers is lost.
+fn is_none_lost_before(number: &[u32], end: usize, remote: PacketNumber) -> bool
     requires { ⌜ (0 < end) × (end ≤ length (now number)) ⌝ }
-    ensures { λ r. ⌜ (r ≡ true → FreeBefore end (now (number .entry))) ⌝ }
+    ensures { λ r. ⌜ (r ≡ true → NoneLostBefore (remote .0) end (now (number .entry))) ⌝ }
 {
-    if end % keys::parts::PART == 0 {
-        return keys::parts::none_in(number, end - keys::parts::PART);
+    if end % keys::parts::PART != 0 {
+        return false;
     }
-    false
+    let at = end - keys::parts::PART;
+    if keys::parts::none_in(number, at) {
+        return true;
+    }
+    none_lost_in(number, at, remote.0)
+}
+
+// None of the part's numbers is lost. Requires the part.
+fn none_lost_in(number: &[u32], at: usize, remote: u16) -> bool
+    requires { ⌜ at + 32 ≤ length (now number) ⌝ }
+    ensures { λ r. ⌜ (r ≡ true → (k : ℕ) → k < 32 → isLost remote (getD (now (number .entry)) (at + k) 0) ≡ false) ⌝ }
+{
+    let mut all: u32 = 4294967295;
+    let mut k: usize = 0;
+    while k < keys::parts::PART {
+        all = all & unless_near(number[at + k], remote);
+        k += 1;
+    }
+    65536 <= all
+}
+
+// An entry, or no number where it is at most 32 before the remote acknowledged number, or after it.
+fn unless_near(entry: u32, remote: u16) -> u32
+    ensures { λ r. ⌜ (65536 ≤ r → isLost remote entry ≡ false) ⌝ }
+{
+    let before = std::num::wrapping_sub_u32(remote as u32, entry) % 65536;
+    if before < 33 {
+        return 4294967295;
+    }
+    if 32768 < before {
+        return 4294967295;
+    }
+    entry
 }
 
 // An entry is less than the remote acknowledged number and more than 32 before it.

@@ -9,7 +9,7 @@ use lib.ListN.{length, drop}
 use denote.Ref.{now}
 use borrow.Author.Tests.{lt-ltb, le-ltb}
 use Rattle.flight.specs.Lost.{leastLost}
-use Rattle.flight.proofs.Loops.{least-end, least-turn, least-free}
+use Rattle.flight.proofs.Loops.{least-end, least-turn, least-kept}
 
 abbrev Inv-loop : tie.InvT-loop
 Inv-loop number remote least₀ i₀ least i = (least ≡ leastLost (remote .0) (drop i number)) × (i ≤ length number)
@@ -20,20 +20,20 @@ abbrev μ-loop : tie.MeasureT-loop
 loop-holds : tie.Need-loop-holds Inv-loop μ-loop
 loop-holds c = (sym (least-end (now (c .before .args .number)) _), omega arith)
 
-is-free-before-requires : tie.Need-is-free-before-requires Inv-loop μ-loop
-is-free-before-requires c κs = search needs
+is-none-lost-before-requires : tie.Need-is-none-lost-before-requires Inv-loop μ-loop
+is-none-lost-before-requires c κs = search needs
 
 sub-i : tie.Need-sub-i Inv-loop μ-loop
-sub-i c = omega (arith, c .before .is-free-before .ensures (c .if1 .taken) .whole)
+sub-i c = omega (arith, c .before .is-none-lost-before .ensures (c .if1 .taken) .whole)
 
 loop-less : tie.Need-loop-less Inv-loop μ-loop
-loop-less c = omega (arith, c .before .is-free-before .ensures (c .if1 .taken) .whole)
+loop-less c = omega (arith, c .before .is-none-lost-before .ensures (c .if1 .taken) .whole)
 
 loop-again : tie.Need-loop-again Inv-loop μ-loop
 loop-again c =
     let l = c .before .before .before .loop in
     let a = c .before .before .before .before .before .args in
-    (l .inv .0 ∙ sym (least-free (a .remote .0) (now (a .number)) (l .i) (omega arith) (c .before .is-free-before .ensures (c .if1 .taken))), omega arith)
+    (l .inv .0 ∙ sym (least-kept (a .remote .0) (now (a .number)) (l .i) (omega arith) (c .before .is-none-lost-before .ensures (c .if1 .taken))), omega arith)
 
 sub-i-2 : tie.Need-sub-i-2 Inv-loop μ-loop
 sub-i-2 c = search needs
@@ -100,7 +100,7 @@ least-lost-spec =
     Inv-loop
     μ-loop
     loop-holds
-    is-free-before-requires
+    is-none-lost-before-requires
     sub-i
     loop-less
     loop-again
