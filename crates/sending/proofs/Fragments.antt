@@ -3,15 +3,18 @@ use mathlib.Core.Path.{_≡_, refl, ap, _∙_}
 use mathlib.Core.Bool.{true, false}
 use mathlib.Core.List.{List, []}
 use Prim.Native.Nat.{ℕ, _+_, _*_, _≤_, _<_}
+use native.Mathlib.Nat.{mul-le-mul}
 use native.Mathlib.Omega.{arith}
 use lib.ListN.{length, getD}
 use borrow.Author.Tests.{lt-ltb, le-ltb}
+use Rattle.laws.proofs.Slots.{slot-end, part-length}
 use Rattle.terms.specs.declared.Sizes.{Sizes}
+use Rattle.ends.specs.State.{State}
+use Rattle.ends.proofs.Opened.{Opened}
 use Rattle.serial.specs.declared.PacketNumber.{PacketNumber}
 use Rattle.acknowledgment.specs.State.{tableOf, slotOf}
 use Rattle.acknowledgment.specs.declared.Acknowledgment.{Acknowledgment}
 use Rattle.flight.specs.Entry.{lengthOf, bytesAt}
-use Rattle.flight.specs.Lost.{Table}
 use Rattle.flight.proofs.Found.{first-at, fits-at}
 use Rattle.splitter.specs.Split.{needed, pieces}
 use Rattle.splitter.proofs.Pieces.{piece-at}
@@ -23,7 +26,8 @@ use Rattle.packet.specs.declared.table.Following.the-variants.{Fragment as Frag
 use Rattle.sending.specs.Datagrams.{Writable, Writes}
 use Rattle.sending.specs.Further.{placeFor, furtherHeaders, furtherDatagram, hasFurther, furtherOf, furtherOutput}
 use Rattle.sending.specs.declared.further.Further.the-variants.{Datagram, Nothing}
-use Rattle.sending.proofs.Fits.{payload-at-most, take-most}
+use Rattle.sending.proofs.Ready.{whole}
+use Rattle.sending.proofs.Fits.{at-most, payload-at-most, take-most}
 
 module _ (z : Sizes) (c : Acknowledgment) (received number records bytes : List ℕ) (n j : ℕ) where
   abbrev F : ℕ
@@ -91,12 +95,34 @@ module _ (z : Sizes) (c : Acknowledgment) (received number records bytes : List 
       let there = is-one (omega (arith, ea, p)) (omega (arith, length-is, o)) (omega (arith, total-is, l)) in
       (rw (there, ← same, w .length-is), rw (there, ← same) (w .output-is))
 
-  -- a payload in flight fits its slot
-  pub fits : Table (slotOf z) (tableOf z number) records bytes → length (tableOf z number) ≡ N → n < 65536 → Place < N → Length ≤ 16 * F
-  fits t l small p =
-      let within : Place < length (tableOf z number) = omega (arith, l, p) in
-      fits-at (slotOf z) (tableOf z number) records Place (t .fits) within (omega (arith, within, t .recorded))
-      (omega (arith, small, first-at n (tableOf z number) within))
+-- a packet in flight has a slot, which is among the bytes and holds its payload of `count` bytes
+pub record Slot (z : Sizes) (bytes : List ℕ) (at count : ℕ) : Type 0 where
+  pub low : at * slotOf z ≤ 256 * 16384
+  pub fits : count ≤ 16384
+  pub ends : at * slotOf z + count ≤ length bytes
+  pub part : length (bytesAt (slotOf z) bytes at count) ≡ count
+  pub few : needed count (z .«fragment_size») ≤ 16
+
+module _ (z : Sizes) (s : State) (output : List ℕ) (g : Opened z s output) (n at count : ℕ) (small : n < 65536)
+    (ea : at ≡ placeFor z (s .acks .number) n) (there : at < z .«packets_in_flight») (ec : count ≡ lengthOf (getD (s .acks .records) at 0)) where
+  holds : count ≤ slotOf z
+  holds =
+      let table = tableOf z (s .acks .number) in
+      let within : at < length table = omega (arith, whole z s output g, there) in
+      let number : getD table at 0 ≡ n = rw ea (first-at n table (omega (arith, ea, within))) in
+      rw ec (fits-at (slotOf z) table (s .acks .records) at (g .flight .fits) within (omega (arith, within, g .flight .recorded)) (omega (arith, small, number)))
+
+  pub in-slot : Slot z (s .acks .bytes) at count
+  in-slot =
+      let f = g .in-range .f in
+      let ends : at * slotOf z + slotOf z ≤ length (s .acks .bytes) = omega (arith, slot-end at (z .«packets_in_flight») (slotOf z) there, g .payloads-room) in
+      record {
+        low = mul-le-mul {n₁ = at} {m₁ = slotOf z} {n₂ = 256} {m₂ = 16384} (omega (arith, there, g .in-range .n .1)) (omega (arith, f .1));
+        fits = omega (arith, holds, f .1);
+        ends = omega (arith, ends, holds);
+        part = part-length (s .acks .bytes) (at * slotOf z) count (omega (arith, ends, holds));
+        few = at-most count (z .«fragment_size») 16 (f .0) holds;
+      }
 
 pub piece-most : (f : ℕ) (l : List ℕ) (j : ℕ) → 1 ≤ f → length (getD (pieces f l) j []) ≤ f
 piece-most f l j some = rw (piece-at f l some j) (take-most f _)

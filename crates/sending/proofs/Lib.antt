@@ -1,5 +1,6 @@
 pub mod Writing
 pub mod Fits
 pub mod Planned
+pub mod Ready
 pub mod Performed
 pub mod Fragments

@@ -1,29 +1,27 @@
--- An open gate gives the plan what it requires; an accepted plan (`accepted`) with it gives the effects what they require.
+-- An open gate gives the plan what it requires, and with a plan that refuses nothing gives the effects theirs (`ready`).
 use borrow.Author.Needs.{needs}
 use Rattle.sending.proofs.transmit.Statement.{statement}
 use Rattle.sending.proofs.transmit.Tie as tie
 use mathlib.Core.Path.{_≡_, sym, _∙_}
-use native.Mathlib.Omega.{arith}
 use lib.ListN.{length}
-use lib.Seq.{length-take-le}
 use denote.Ref.{now}
 use Rattle.ends.specs.State.{State, lending}
 use Rattle.ends.proofs.Opened.{Opened, opened}
 use Rattle.acknowledgment.specs.State.{tableOf}
 use Rattle.sending.specs.Plan.{planOf}
 use Rattle.sending.specs.declared.plan.Plan.{Plan}
-use Rattle.sending.specs.declared.plan.Plan.the-variants.{Send}
-use Rattle.sending.proofs.Planned.{Accepted, accepted}
+use Rattle.sending.specs.declared.plan.Plan.the-variants.{Refuse, Send}
+use Rattle.sending.proofs.Ready.{whole, ready}
 use Rattle.sending.proofs.Performed.{kept, sends}
 
-abbrev end : tie.Start → State
-end c = lending (c .args .end) (now (c .args .received)) (now (c .args .number)) (now (c .args .records)) (now (c .args .payloads)) (now (c .args .slots)) (now (c .args .entry)) (now (c .args .header)) (now (c .args .joined)) (now (c .args .index)) (now (c .args .lengths)) (now (c .args .held))
+abbrev state : tie.Start → State
+state c = lending (c .args .end) (now (c .args .received)) (now (c .args .number)) (now (c .args .records)) (now (c .args .payloads)) (now (c .args .slots)) (now (c .args .entry)) (now (c .args .header)) (now (c .args .joined)) (now (c .args .index)) (now (c .args .lengths)) (now (c .args .held))
 
-gate : (c : tie.Start) → Opened (c .args .sizes) (end c) (now (c .args .output))
-gate c = opened (c .args .sizes) (end c) (now (c .args .output)) (c .pre)
+gate : (c : tie.Start) → Opened (c .args .sizes) (state c) (now (c .args .output))
+gate c = opened (c .args .sizes) (state c) (now (c .args .output)) (c .pre)
 
-whole : (c : tie.Start) → length (tableOf (c .args .sizes) (now (c .args .number))) ≡ c .args .sizes .«packets_in_flight»
-whole c = length-take-le (c .args .sizes .«packets_in_flight») (now (c .args .number)) (gate c .number-room)
+table : (c : tie.Start) → length (tableOf (c .args .sizes) (now (c .args .number))) ≡ c .args .sizes .«packets_in_flight»
+table c = whole (c .args .sizes) (state c) (now (c .args .output)) (gate c)
 
 abbrev plan : tie.Start → Plan
 plan c = planOf (c .args .sizes) (c .args .end .acks .«sequence_number» .0) (c .args .end .ordering) (c .args .end .sequencing) (tableOf (c .args .sizes) (now (c .args .number))) (c .args .item) (length (now (c .args .payload)))
@@ -31,14 +29,17 @@ plan c = planOf (c .args .sizes) (c .args .end .acks .«sequence_number» .0) (c
 goes : (c : tie.After-known-told2) → plan (c .before .before .before .before .before .before .before .before .before .before .before .before .before .before .before .before .before .before) ≡ Send (c .before .plan2 .given .0 .0)
 goes c = sym (c .before .before .before .judge .ensures) ∙ c .before .plan2 .given .1
 
+stops : (c : tie.After-known-told) → plan (c .before .before .before .before .before .before .before .before .before .before .before .before .before .before .before .before .before .before) ≡ Refuse (c .before .plan .given .0 .0)
+stops c = sym (c .before .before .before .judge .ensures) ∙ c .before .plan .given .1
+
 slice-reshare-prefix-judge : tie.Need-slice-reshare-prefix-judge
 slice-reshare-prefix-judge c = gate (c .before .before .before .before .before .before .before .before .before .before .before .before .before) .number-room
 
 slice-aggregate-judge : tie.Need-slice-aggregate-judge
-slice-aggregate-judge c = sym (whole (c .before .before .before .before .before .before .before .before .before .before .before .before .before .before))
+slice-aggregate-judge c = sym (table (c .before .before .before .before .before .before .before .before .before .before .before .before .before .before))
 
 judge-requires : tie.Need-judge-requires
-judge-requires c κs = (gate (c .before .before .before .before .before .before .before .before .before .before .before .before .before .before) .ranged, whole (c .before .before .before .before .before .before .before .before .before .before .before .before .before .before), gate (c .before .before .before .before .before .before .before .before .before .before .before .before .before .before) .ordered .four, gate (c .before .before .before .before .before .before .before .before .before .before .before .before .before .before) .four)
+judge-requires c κs = (gate (c .before .before .before .before .before .before .before .before .before .before .before .before .before .before) .ranged, table (c .before .before .before .before .before .before .before .before .before .before .before .before .before .before), gate (c .before .before .before .before .before .before .before .before .before .before .before .before .before .before) .ordered .four, gate (c .before .before .before .before .before .before .before .before .before .before .before .before .before .before) .four)
 
 enum-known-plan : tie.Need-enum-known-plan
 enum-known-plan c = search needs
@@ -48,31 +49,16 @@ enum-known-plan-2 c = search needs
 
 perform-requires : tie.Need-perform-requires
 perform-requires c κs =
-    let o = gate (c .before .before .before .before .before .before .before .before .before .before .before .before .before .before .before .before .before .before .before .before .before .before) in
-    let q = c .before .before .before .before .before .plan2 .given .0 .0 in
-    let n = whole (c .before .before .before .before .before .before .before .before .before .before .before .before .before .before .before .before .before .before .before .before .before .before) in
-    let a : Accepted (c .before .before .before .before .before .before .before .before .before .before .before .before .before .before .before .before .before .before .before .before .before .before .args .sizes) (c .before .before .before .before .before .before .before .before .before .before .before .before .before .before .before .before .before .before .before .before .before .before .args .end .acks .«sequence_number» .0) (c .before .before .before .before .before .before .before .before .before .before .before .before .before .before .before .before .before .before .before .before .before .before .args .end .ordering) (c .before .before .before .before .before .before .before .before .before .before .before .before .before .before .before .before .before .before .before .before .before .before .args .end .sequencing) (tableOf (c .before .before .before .before .before .before .before .before .before .before .before .before .before .before .before .before .before .before .before .before .before .before .args .sizes) (now (c .before .before .before .before .before .before .before .before .before .before .before .before .before .before .before .before .before .before .before .before .before .before .args .number))) (c .before .before .before .before .before .before .before .before .before .before .before .before .before .before .before .before .before .before .before .before .before .before .args .item) (length (now (c .before .before .before .before .before .before .before .before .before .before .before .before .before .before .before .before .before .before .before .before .before .before .args .payload))) q = accepted (c .before .before .before .before .before .before .before .before .before .before .before .before .before .before .before .before .before .before .before .before .before .before .args .sizes) (c .before .before .before .before .before .before .before .before .before .before .before .before .before .before .before .before .before .before .before .before .before .before .args .end .acks .«sequence_number» .0) (c .before .before .before .before .before .before .before .before .before .before .before .before .before .before .before .before .before .before .before .before .before .before .args .end .ordering) (c .before .before .before .before .before .before .before .before .before .before .before .before .before .before .before .before .before .before .before .before .before .before .args .end .sequencing) (tableOf (c .before .before .before .before .before .before .before .before .before .before .before .before .before .before .before .before .before .before .before .before .before .before .args .sizes) (now (c .before .before .before .before .before .before .before .before .before .before .before .before .before .before .before .before .before .before .before .before .before .before .args .number))) (c .before .before .before .before .before .before .before .before .before .before .before .before .before .before .before .before .before .before .before .before .before .before .args .item) (length (now (c .before .before .before .before .before .before .before .before .before .before .before .before .before .before .before .before .before .before .before .before .before .before .args .payload))) (omega (arith, n, o .in-range .n .0)) (o .ordered .four) (o .four) q (goes (c .before .before .before .before)) in
-    record {
-      range = o .ranged;
-      slots = o .received-room;
-      places = o .number-room;
-      beside = o .records-room;
-      room = o .payloads-room;
-      four-ordered = o .ordered .four;
-      four-sequenced = o .four;
-      listed = a .listed;
-      short = a .short;
-      few = a .few;
-      at-place = omega (arith, a .at-place, n);
-      on-stream = a .on-stream;
-      wide = o .output-room;
-    }
+    let s = c .before .before .before .before .before .before .before .before .before .before .before .before .before .before .before .before .before .before .before .before .before .before in
+    ready (s .args .sizes) (state s) (now (s .args .output)) (gate s) (s .args .item) _ (now (s .args .payload)) (goes (c .before .before .before .before))
 
 same-length : tie.Need-same-length
 same-length c = search needs
 
 returns : tie.Need-returns
-returns c = kept (c .before .before .before .before .before .before .before .before .before .before .before .before .before .before .before .before .before .before .args .sizes) (end (c .before .before .before .before .before .before .before .before .before .before .before .before .before .before .before .before .before .before)) (c .before .before .before .before .before .before .before .before .before .before .before .before .before .before .before .before .before .before .args .item) (now (c .before .before .before .before .before .before .before .before .before .before .before .before .before .before .before .before .before .before .args .payload)) (now (c .before .before .before .before .before .before .before .before .before .before .before .before .before .before .before .before .before .before .args .output)) _ (sym (c .before .before .before .judge .ensures) ∙ c .before .plan .given .1)
+returns c =
+    let s = c .before .before .before .before .before .before .before .before .before .before .before .before .before .before .before .before .before .before in
+    kept (s .args .sizes) (state s) (s .args .item) (now (s .args .payload)) (now (s .args .output)) _ (stops c)
 
 same-length-2 : tie.Need-same-length-2
 same-length-2 c = search needs
@@ -87,7 +73,9 @@ same-length-5 : tie.Need-same-length-5
 same-length-5 c = search needs
 
 returns-2 : tie.Need-returns-2
-returns-2 c = sends (c .before .before .before .before .before .before .before .before .before .before .before .before .before .before .before .before .before .before .before .before .before .before .before .before .before .before .before .before .before .before .before .args .sizes) (end (c .before .before .before .before .before .before .before .before .before .before .before .before .before .before .before .before .before .before .before .before .before .before .before .before .before .before .before .before .before .before .before)) (c .before .before .before .before .before .before .before .before .before .before .before .before .before .before .before .before .before .before .before .before .before .before .before .before .before .before .before .before .before .before .before .args .item) (now (c .before .before .before .before .before .before .before .before .before .before .before .before .before .before .before .before .before .before .before .before .before .before .before .before .before .before .before .before .before .before .before .args .payload)) (now (c .before .before .before .before .before .before .before .before .before .before .before .before .before .before .before .before .before .before .before .before .before .before .before .before .before .before .before .before .before .before .before .args .output)) _ _ _ _ _ _ (goes (c .before .before .before .before .before .before .before .before .before .before .before .before .before)) (c .before .before .before .before .before .before .before .before .perform .ensures)
+returns-2 c =
+    let s = c .before .before .before .before .before .before .before .before .before .before .before .before .before .before .before .before .before .before .before .before .before .before .before .before .before .before .before .before .before .before .before in
+    sends (s .args .sizes) (state s) (s .args .item) (now (s .args .payload)) (now (s .args .output)) _ _ _ _ _ _ (goes (c .before .before .before .before .before .before .before .before .before .before .before .before .before)) (c .before .before .before .before .before .before .before .before .perform .ensures)
 
 pub transmit-spec : {M : Type 1} → statement M
 transmit-spec =

@@ -26,17 +26,21 @@ identify-requires c κs = search needs
 
 first-requires : tie.Need-first-requires
 first-requires c κs =
-    let r = c .before .before .before .before .before .before .before .before .before .before .before .before .before .before .pre in
-    let f = sizes (c .before .before .before .before .before .before .before .before .before .before .before .before .before .before) .f in
-    (r .slots, f .0, f .1, few-datagrams (c .before .before .before .before .before .before .before .before .before .before .before .before .before .before .args .sizes .«fragment_size») (length (now (c .before .before .before .before .before .before .before .before .before .before .before .before .before .before .args .payload))) (c .before .before .before .before .before .before .before .before .before .before .before .before .before .before .args .sizes .«max_fragments») (sizes (c .before .before .before .before .before .before .before .before .before .before .before .before .before .before) .m .1) (r .few), writable (c .before .before .before .before .before .before .before .before .before .before .before .before .before .before .args .sizes .«fragment_size») (c .before .before .before .before .before .before .before .before .before .before .before .before .before .before .args .item) (c .before .before .before .before .identify .result .item) (c .before .before .before .before .before .before .before .before .before .before .before .before .before .before .args .end .acks) (now (c .before .before .before .before .before .before .before .before .before .before .before .before .before .before .args .received)) (now (c .before .before .before .before .before .before .before .before .before .before .before .before .before .before .args .payload)) (now (c .before .before .before .before .before .before .before .before .before .before .before .before .before .before .args .output)) (f .0) (r .listed) (r .short) (r .wide))
+    let s = c .before .before .before .before .before .before .before .before .before .before .before .before .before .before in
+    let a = s .args in
+    let r = s .pre in
+    let f = sizes s .f in
+    (r .slots, f .0, f .1, few-datagrams (a .sizes .«fragment_size») (length (now (a .payload))) (a .sizes .«max_fragments») (sizes s .m .1) (r .few), writable (a .sizes .«fragment_size») (a .item) (c .before .before .before .before .identify .result .item) (a .end .acks) (now (a .received)) (now (a .payload)) (now (a .output)) (f .0) (r .listed) (r .short) (r .wide))
 
 count-requires : tie.Need-count-requires
 count-requires c κs = sizes (c .before .before .before .before .before .before .before .before .before .before .before .before .before .before .before .before .before) .f
 
 keep-requires : tie.Need-keep-requires
 keep-requires c κs =
-    let r = c .before .before .before .before .before .before .before .before .before .before .before .before .before .before .before .before .before .before .before .before .before .pre in
-    (sizes (c .before .before .before .before .before .before .before .before .before .before .before .before .before .before .before .before .before .before .before .before .before) .f .1, omega (arith, r .at-place, r .places), omega (arith, r .at-place, r .beside), there (c .before .before .before .before .before .before .before .before .before .before .before .before .before .before .before .before .before .before .before .before .before), held (c .before .before .before .before .before .before .before .before .before .before .before .before .before .before .before .before .before .before .before .before .before), omega (arith, not-over (c .before .before .before .before .before .before .before .before .before .before .before .before .before .before .before .before .before .before .before .before .before .args .sizes .«fragment_size») (length (now (c .before .before .before .before .before .before .before .before .before .before .before .before .before .before .before .before .before .before .before .before .before .args .payload))) (c .before .before .before .before .before .before .before .before .before .before .before .before .before .before .before .before .before .before .before .before .before .args .item) (r .short)))
+    let s = c .before .before .before .before .before .before .before .before .before .before .before .before .before .before .before .before .before .before .before .before .before in
+    let a = s .args in
+    let r = s .pre in
+    (sizes s .f .1, omega (arith, r .at-place, r .places), omega (arith, r .at-place, r .beside), there s, held s, omega (arith, not-over (a .sizes .«fragment_size») (length (now (a .payload))) (a .item) (r .short)))
 
 same-length : tie.Need-same-length
 same-length c = search needs
@@ -52,7 +56,8 @@ same-length-4 c = search needs
 
 returns : tie.Need-returns
 returns c =
-    performed (c .before .before .before .before .before .before .before .before .before .before .before .before .before .before .before .before .before .before .before .before .before .before .before .before .before .before .before .before .args .sizes) (c .before .before .before .before .before .before .before .before .before .before .before .before .before .before .before .before .before .before .before .before .before .before .before .before .before .before .before .before .args .end) (now (c .before .before .before .before .before .before .before .before .before .before .before .before .before .before .before .before .before .before .before .before .before .before .before .before .before .before .before .before .args .received)) (now (c .before .before .before .before .before .before .before .before .before .before .before .before .before .before .before .before .before .before .before .before .before .before .before .before .before .before .before .before .args .number)) (now (c .before .before .before .before .before .before .before .before .before .before .before .before .before .before .before .before .before .before .before .before .before .before .before .before .before .before .before .before .args .records)) (now (c .before .before .before .before .before .before .before .before .before .before .before .before .before .before .before .before .before .before .before .before .before .before .before .before .before .before .before .before .args .payloads)) (c .before .before .before .before .before .before .before .before .before .before .before .before .before .before .before .before .before .before .before .before .before .before .before .before .before .before .before .before .args .item) (c .before .before .before .before .before .before .before .before .before .before .before .before .before .before .before .before .before .before .before .before .before .before .before .before .before .before .before .before .args .sending) (now (c .before .before .before .before .before .before .before .before .before .before .before .before .before .before .before .before .before .before .before .before .before .before .before .before .before .before .before .before .args .payload)) (now (c .before .before .before .before .before .before .before .before .before .before .before .before .before .before .before .before .before .before .before .before .before .before .before .before .before .before .before .before .args .output))
+    let a = c .before .before .before .before .before .before .before .before .before .before .before .before .before .before .before .before .before .before .before .before .before .before .before .before .before .before .before .before .args in
+    performed (a .sizes) (a .end) (now (a .received)) (now (a .number)) (now (a .records)) (now (a .payloads)) (a .item) (a .sending) (now (a .payload)) (now (a .output))
     (c .before .before .before .before .before .before .before .before .before .before .before .before .before .before .before .before .before .before .identify .result) (c .before .before .before .before .before .before .keep .result) (c .before .before .before .before .before .before .before .before .before .before .count .result) (c .before .before .before .before .before .before .before .before .before .before .before .before .before .first .result) _ _ _ _
     (c .before .before .before .before .before .before .before .before .before .before .before .before .before .before .before .before .before .before .identify .ensures) (c .before .before .before .before .before .before .before .before .before .before .before .before .before .first .ensures) (c .before .before .before .before .before .before .before .before .before .before .count .ensures) (c .before .before .before .before .before .before .keep .ensures)
 

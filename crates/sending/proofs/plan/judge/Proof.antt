@@ -42,46 +42,52 @@ is-listed-requires c κs = search needs
 
 returns : tie.Need-returns
 returns c =
-    let bad : isListed (c .before .before .before .args .item) ≡ false = sym (c .before .is-listed .ensures) ∙ off (c .before .is-listed .result) (c .if1 .taken) in
-    sym (unlisted (c .before .before .before .args .sizes) _ _ _ _ _ _ bad)
+    let a = c .before .before .before .args in
+    let bad : isListed (a .item) ≡ false = sym (c .before .is-listed .ensures) ∙ off (c .before .is-listed .result) (c .if1 .taken) in
+    sym (unlisted (a .sizes) _ _ _ _ _ _ bad)
 
 is-long-requires : tie.Need-is-long-requires
 is-long-requires c κs = search needs
 
 returns-2 : tie.Need-returns-2
 returns-2 c =
-    let over : isLong (c .before .before .before .before .before .args .sizes .«fragment_size») (c .before .before .before .before .before .args .item) (c .before .before .before .before .before .args .size) ≡ true = sym (c .before .is-long .ensures) ∙ c .if2 .taken in
-    sym (too-long (c .before .before .before .before .before .args .sizes) _ _ _ _ _ _ (listed (c .before .before)) over)
+    let a = c .before .before .before .before .before .args in
+    let over : isLong (a .sizes .«fragment_size») (a .item) (a .size) ≡ true = sym (c .before .is-long .ensures) ∙ c .if2 .taken in
+    sym (too-long (a .sizes) _ _ _ _ _ _ (listed (c .before .before)) over)
 
 fragments-needed-requires : tie.Need-fragments-needed-requires
 fragments-needed-requires c κs = sizes (c .before .before .before .before .before) .f
 
 returns-3 : tie.Need-returns-3
 returns-3 c =
-    let many : ltb (c .before .before .before .before .before .before .before .before .args .sizes .«max_fragments») (needed (c .before .before .before .before .before .before .before .before .args .size) (c .before .before .before .before .before .before .before .before .args .sizes .«fragment_size»)) ≡ true = rw (← c .before .before .fragments-needed .ensures) (lt-ltb _ _ (c .if3 .taken)) in
-    sym (too-many (c .before .before .before .before .before .before .before .before .args .sizes) _ _ _ _ _ _ (listed (c .before .before .before .before .before)) (short (c .before .before .before)) many)
+    let a = c .before .before .before .before .before .before .before .before .args in
+    let many : ltb (a .sizes .«max_fragments») (needed (a .size) (a .sizes .«fragment_size»)) ≡ true = rw (← c .before .before .fragments-needed .ensures) (lt-ltb _ _ (c .if3 .taken)) in
+    sym (too-many (a .sizes) _ _ _ _ _ _ (listed (c .before .before .before .before .before)) (short (c .before .before .before)) many)
 
 stream-place-requires : tie.Need-stream-place-requires
 stream-place-requires c κs = search needs
 
 returns-4 : tie.Need-returns-4
 returns-4 c =
-    let out : eqb (streamPlace (c .before .before .before .before .before .before .before .before .before .before .args .item) (c .before .before .before .before .before .before .before .before .before .before .args .ordered) (c .before .before .before .before .before .before .before .before .before .before .args .sequenced)) 4 ≡ true = ap (λ (k : ℕ). eqb k 4) (sym (c .before .stream-place .ensures)) ∙ eq-eqb _ _ (c .if4 .taken) in
-    sym (fifth (c .before .before .before .before .before .before .before .before .before .before .args .sizes) _ _ _ _ _ _ (listed (c .before .before .before .before .before .before .before)) (short (c .before .before .before .before .before)) (few (c .before .before)) out)
+    let a = c .before .before .before .before .before .before .before .before .before .before .args in
+    let out : eqb (streamPlace (a .item) (a .ordered) (a .sequenced)) 4 ≡ true = ap (λ (k : ℕ). eqb k 4) (sym (c .before .stream-place .ensures)) ∙ eq-eqb _ _ (c .if4 .taken) in
+    sym (fifth (a .sizes) _ _ _ _ _ _ (listed (c .before .before .before .before .before .before .before)) (short (c .before .before .before .before .before)) (few (c .before .before)) out)
 
 flight-place-requires : tie.Need-flight-place-requires
 flight-place-requires c κs = some (c .before .before .before .before .before .before .before .before .before .before)
 
 returns-5 : tie.Need-returns-5
 returns-5 c =
+    let a = c .before .before .before .before .before .before .before .before .before .before .before .before .args in
     let out = fullness (c .before) ∙ eq-eqb _ _ (c .if5 .taken) in
-    sym (no-room (c .before .before .before .before .before .before .before .before .before .before .before .before .args .sizes) _ _ _ _ _ _ (listed (c .before .before .before .before .before .before .before .before .before)) (short (c .before .before .before .before .before .before .before)) (few (c .before .before .before .before)) (known (c .before .before)) out)
+    sym (no-room (a .sizes) _ _ _ _ _ _ (listed (c .before .before .before .before .before .before .before .before .before)) (short (c .before .before .before .before .before .before .before)) (few (c .before .before .before .before)) (known (c .before .before)) out)
 
 returns-6 : tie.Need-returns-6
 returns-6 c =
+    let a = c .before .before .before .before .before .before .before .before .before .before .before .before .args in
     let free = fullness (c .before) ∙ ne-eqb _ _ (c .if5 .left) in
     rw (c .before .flight-place .ensures, c .before .before .before .stream-place .ensures)
-    (sym (goes (c .before .before .before .before .before .before .before .before .before .before .before .before .args .sizes) _ _ _ _ _ _ (listed (c .before .before .before .before .before .before .before .before .before)) (short (c .before .before .before .before .before .before .before)) (few (c .before .before .before .before)) (known (c .before .before)) free))
+    (sym (goes (a .sizes) _ _ _ _ _ _ (listed (c .before .before .before .before .before .before .before .before .before)) (short (c .before .before .before .before .before .before .before)) (few (c .before .before .before .before)) (known (c .before .before)) free))
 
 pub judge-spec : {M : Type 1} → statement M
 judge-spec =
