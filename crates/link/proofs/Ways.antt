@@ -30,11 +30,10 @@ use Rattle.receiving.specs.Receive.{refused as receiveRefused, receivedOf, Rece
 use Rattle.receiving.specs.declared.Answer.the-variants.{Refused as NotReceived}
 use Rattle.sending.specs.Send.{Step as Sent, transmittedOf, Sends}
 use Rattle.sending.specs.Further.{furtherOf, furtherOutput}
-use Rattle.sending.specs.declared.Identifier.the-variants.{Next}
 use Rattle.sending.specs.declared.Answer.the-variants.{Refused as NotSent}
 use Rattle.sending.specs.declared.further.Further.{Further}
 use Rattle.sending.specs.declared.further.Further.the-variants.{Refused as NotWritten}
-use Rattle.link.specs.Calls.{newOf, receiveOf, takenBy, takeOf, Takes, sendRefused, sendOf, itemAgain, resendOf, fragmentOf, fragmentOutput, dropOf, dropNumber, dropOutput, statusOf, reportOf}
+use Rattle.link.specs.Calls.{newOf, receiveOf, takenBy, takeOf, Takes, sendRefused, itemNext, sendOf, itemAgain, resendOf, fragmentOf, fragmentOutput, dropOf, dropNumber, dropOutput, statusOf, reportOf}
 use Rattle.link.specs.declared.status.Asked.the-variants.{Told, Refused as NotTold}
 use Rattle.link.specs.declared.fresh.Fresh.{Fresh}
 use Rattle.link.specs.declared.fresh.Fresh.the-variants.{Ready, Refused as NotMade}
@@ -173,7 +172,7 @@ module _ (z : Sizes) (s : State) (output : List ℕ) where
   send-shut why delivery ordering stream payload e = rw e
 
   pub send-open : (delivery : DeliveryGuarantee) (ordering : OrderingGuarantee) (stream : ℕ) (payload : List ℕ) → gateOf z s output ≡ Open
-      → sendOf z s delivery ordering stream payload output ≡ transmittedOf z s (record { delivery = delivery; ordering = ordering; stream = stream; identifier = Next }) payload output
+      → sendOf z s delivery ordering stream payload output ≡ transmittedOf z s (itemNext delivery ordering stream) payload output
   unfolding sendOf
   send-open delivery ordering stream payload e = rw e
 

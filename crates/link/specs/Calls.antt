@@ -96,10 +96,13 @@ pub record Takes (t : Taking) (r : Took) (received number records payloads slots
 abbrev pub sendRefused : Refusal → State → List ℕ → Sent
 sendRefused why s output = record { answer = NotSent why; end = s; output = output }
 
+abbrev pub itemNext : DeliveryGuarantee → OrderingGuarantee → ℕ → Item
+itemNext delivery ordering stream = record { delivery = delivery; ordering = ordering; stream = stream; identifier = Next }
+
 unfoldable pub sendOf : Sizes → State → DeliveryGuarantee → OrderingGuarantee → ℕ → List ℕ → List ℕ → Sent
 sendOf z s delivery ordering stream payload output =
     through (gateOf z s output) (λ (why : Refusal). sendRefused why s output)
-    (transmittedOf z s (record { delivery = delivery; ordering = ordering; stream = stream; identifier = Next }) payload output)
+    (transmittedOf z s (itemNext delivery ordering stream) payload output)
 
 -- "is given the record .. that `dropped_packets` gave back, .. keeps its item identifier"
 abbrev pub itemAgain : SentPacket → Item

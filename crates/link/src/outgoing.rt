@@ -3,7 +3,7 @@ ghost use mathlib.Core.Path.{_≡_};
 ghost use Rattle.ends.specs.State.{lending};
 ghost use Rattle.sending.specs.Send.{Sends};
 ghost use Rattle.sending.specs.declared.Answer.the-variants.{Refused};
-ghost use Rattle.link.specs.Calls.{sendOf, itemAgain, resendOf, fragmentOf, fragmentOutput};
+ghost use Rattle.link.specs.Calls.{itemNext, sendOf, itemAgain, resendOf, fragmentOf, fragmentOutput};
 use ends::End;
 use ends::gate;
 use flight::SentPacket;
@@ -63,12 +63,6 @@ pub fn send(
     if let Gate::Shut(why) = gate {
         return refused(end, why);
     }
-    let item = Item {
-        delivery,
-        ordering,
-        stream,
-        identifier: Identifier::Next,
-    };
     sending::transmit(
         sizes,
         end,
@@ -83,7 +77,7 @@ pub fn send(
         index,
         lengths,
         held,
-        item,
+        item_next(delivery, ordering, stream),
         payload,
         output,
     )
@@ -151,6 +145,17 @@ pub fn resend(
         payload,
         output,
     )
+}
+
+fn item_next(delivery: DeliveryGuarantee, ordering: OrderingGuarantee, stream: u8) -> Item
+    ensures { λ r. ⌜ r ≡ itemNext delivery ordering stream ⌝ }
+{
+    Item {
+        delivery,
+        ordering,
+        stream,
+        identifier: Identifier::Next,
+    }
 }
 
 fn item_again(sent: SentPacket) -> Item

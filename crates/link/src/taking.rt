@@ -2,6 +2,8 @@
 ghost use mathlib.Core.Path.{_≡_};
 ghost use Rattle.ends.specs.State.{lending};
 ghost use Rattle.link.specs.Calls.{takeOf, Takes};
+use arranging::ordered;
+use arranging::ordered::AfterTake;
 use ends::End;
 use ends::gate;
 use ordering::Taken;
@@ -55,7 +57,7 @@ pub fn take(
             answer: Taken::Refused(why),
         };
     }
-    let after = arranging::ordered::take_next(
+    let after = ordered::take_next(
         end.ordering,
         sizes.fragment_size,
         index,
@@ -64,6 +66,13 @@ pub fn take(
         stream,
         output,
     );
+    left_by(end, after)
+}
+
+// Only the ordered streams have changed.
+fn left_by(end: End, after: AfterTake) -> Took
+    ensures { λ r. ⌜ r ≡ record { end = record { acks = end .acks; reassembly = end .reassembly; ordering = after .streams; sequencing = end .sequencing }; answer = after .answer } ⌝ }
+{
     let answer = after.answer;
     let acks = end.acks;
     let reassembly = end.reassembly;

@@ -2,11 +2,13 @@
 use borrow.Author.Needs.{needs}
 use Rattle.link.proofs.outgoing.send.Statement.{statement}
 use Rattle.link.proofs.outgoing.send.Tie as tie
-use mathlib.Core.Path.{_≡_, sym, _∙_}
+use mathlib.Core.Path.{_≡_, sym, ap, _∙_}
 use denote.Ref.{now}
 use Rattle.terms.specs.declared.Gate.the-variants.{Open, Shut}
 use Rattle.ends.specs.State.{State, lending}
 use Rattle.ends.specs.Gate.{gateOf}
+use Rattle.sending.specs.Send.{transmittedOf}
+use Rattle.sending.specs.declared.Item.{Item}
 use Rattle.link.specs.Calls.{sendOf}
 use Rattle.link.proofs.Ways.{not-sent, send-shut, send-open}
 
@@ -48,8 +50,11 @@ returns c =
 enum-told : tie.Need-enum-told
 enum-told c = search needs
 
+item-next-requires : tie.Need-item-next-requires
+item-next-requires c κs = search needs
+
 transmit-requires : tie.Need-transmit-requires
-transmit-requires c κs = is-open (c .before .before .before .before)
+transmit-requires c κs = is-open (c .before .before .before .before .before)
 
 same-length-5 : tie.Need-same-length-5
 same-length-5 c = search needs
@@ -65,8 +70,9 @@ same-length-8 c = search needs
 
 returns-2 : tie.Need-returns-2
 returns-2 c =
-    let s = c .before .before .before .before .before .before .before .before .before .before .before .before .before .before .before .before .before .before .before .before .before .before .before .before .before .before .before .before .before .before .before .before .before in
-    rw (send-open (s .args .sizes) (whole s) (now (s .args .output)) (s .args .delivery) (s .args .ordering) (s .args .stream) (now (s .args .payload)) (is-open (c .before .before .before .before .before .before .before .before .before .before .before .before .before))) (c .before .before .before .before .before .before .before .before .transmit .ensures)
+    let s = c .before .before .before .before .before .before .before .before .before .before .before .before .before .before .before .before .before .before .before .before .before .before .before .before .before .before .before .before .before .before .before .before .before .before in
+    let same = send-open (s .args .sizes) (whole s) (now (s .args .output)) (s .args .delivery) (s .args .ordering) (s .args .stream) (now (s .args .payload)) (is-open (c .before .before .before .before .before .before .before .before .before .before .before .before .before .before)) ∙ ap (λ (i : Item). transmittedOf (s .args .sizes) (whole s) i (now (s .args .payload)) (now (s .args .output))) (sym (c .before .before .before .before .before .before .before .before .before .before .item-next .ensures)) in
+    rw same (c .before .before .before .before .before .before .before .before .transmit .ensures)
 
 pub send-spec : {M : Type 1} → statement M
 send-spec =
@@ -81,6 +87,7 @@ send-spec =
     same-length-4
     returns
     enum-told
+    item-next-requires
     transmit-requires
     same-length-5
     same-length-6

@@ -52,6 +52,9 @@ enum-told c = search needs
 take-next-requires : tie.Need-take-next-requires
 take-next-requires c κs = (opens (c .before .before .before .before) .ordered, omega (arith, opens (c .before .before .before .before) .output-room))
 
+left-by-requires : tie.Need-left-by-requires
+left-by-requires c κs = search needs
+
 same-length-5 : tie.Need-same-length-5
 same-length-5 c = search needs
 
@@ -66,8 +69,8 @@ same-length-8 c = search needs
 
 returns-2 : tie.Need-returns-2
 returns-2 c =
-    let s = c .before .before .before .before .before .before .before .before .before .before .before .before .before .before .before .before .before .before .before .before .before .before .before .before .before .before .before .before .before .before .before .before .before .before .before .before in
-    take-open (s .args .sizes) (whole s) (now (s .args .output)) (s .args .stream) _ _ _ _ _ (is-open (c .before .before .before .before .before .before .before .before .before .before .before .before .before .before .before .before .before)) (c .before .before .before .before .before .before .before .before .before .before .before .before .take-next .ensures)
+    let s = c .before .before .before .before .before .before .before .before .before .before .before .before .before .before .before .before .before .before .before .before .before .before .before .before .before .before .before .before .before .before .before .before .before in
+    rw (c .left-by .ensures) (take-open (s .args .sizes) (whole s) (now (s .args .output)) (s .args .stream) _ _ _ _ _ (is-open (c .before .before .before .before .before .before .before .before .before .before .before .before .before .before)) (c .before .before .before .before .before .before .before .before .before .take-next .ensures))
 
 pub take-spec : {M : Type 1} → statement M
 take-spec =
@@ -82,6 +85,7 @@ take-spec =
     returns
     enum-told
     take-next-requires
+    left-by-requires
     same-length-5
     same-length-6
     same-length-7
