@@ -89,17 +89,16 @@ fn perform(
         headers.arranging,
         payload,
     );
-    let answer = plan::tell(plan, item(headers, payload.len()));
+    let item = item(headers, payload.len());
+    let answer = plan::tell(plan, item);
     hand_out(answer, payload, output);
-    Received {
-        end: End {
-            acks,
-            reassembly,
-            ordering,
-            sequencing,
-        },
-        answer,
-    }
+    let after = End {
+        acks,
+        reassembly,
+        ordering,
+        sequencing,
+    };
+    Received { end: after, answer }
 }
 
 fn item(headers: Headers, length: usize) -> Item
