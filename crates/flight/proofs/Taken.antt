@@ -1,13 +1,13 @@
 -- A number taken from its own place, and the numbers of an acknowledgment one after another. Assumes nothing.
 --     own-here, own-away      taking one number is a map, whether it was there or not
 --     home-kept               what is emptied stays at home
---     first-turn, turn, no-turn, last-turn     the numbers told of so far; acked-near, acked-alone, how far that goes
+--     first-turn, turn, no-turn, last-turn     the numbers told of so far
 use mathlib.Core.Path.{_≡_, refl, sym, ap, _∙_}
 use mathlib.Core.Bool.{Bool, true, false, _&&_, _||_}
 use mathlib.Core.List.{List, [], _∷_, map}
 use mathlib.Core.Logic.{⊎-elim}
-use Prim.Native.Nat.{ℕ, suc, _+_, _-_, _%_, _^_, _≤_, _<_}
-use native.Mathlib.Nat.{mod-lt, zero-div}
+use Prim.Native.Nat.{ℕ, suc, _+_, _-_, _%_, _≤_, _<_}
+use native.Mathlib.Nat.{mod-lt}
 use native.Mathlib.Omega.{arith}
 use lib.ListN.{length, getD, set, length-set, length-map}
 use lib.Seq.{ext-getD, getD-set-same, getD-set-other}
@@ -118,7 +118,7 @@ module _ (acked field : ℕ) (small : acked < 65536) where
   acked-bit e k h some most z =
       rw (lt-ltb e 65536 h, z, ne-eqb k 0 (λ q. omega arith), le-leb k 32 most)
 
-  pub acked-near : (e : ℕ) → isAcked acked field e ≡ true → back acked e < 33
+  acked-near : (e : ℕ) → isAcked acked field e ≡ true → back acked e < 33
   unfolding isAcked
   acked-near e =
       case (ltb e 65536)
@@ -207,29 +207,12 @@ module _ (acked field : ℕ) (small : acked < 65536) where
         not-yet k e z ∙ sym (now-told k e z ∙ told-of k e most (omega arith) z ∙ left))
         (λ q. sym (more-same k e (λ h z. eqb-false e (back acked k) q (omega arith))))))
 
-  -- from k on nothing is told of
-  pub last-turn : (k : ℕ) → ((e : ℕ) → isAcked acked field e ≡ true → back acked e < k) → (l : List ℕ)
-      → map (emptied (upTo acked field k)) l ≡ map (emptied (isAcked acked field)) l
+  pub last-turn : (l : List ℕ) → map (emptied (upTo acked field 33)) l ≡ map (emptied (isAcked acked field)) l
   unfolding upTo
-  last-turn k near =
-      alike (emptied (upTo acked field k)) (emptied (isAcked acked field))
+  last-turn =
+      alike (emptied (upTo acked field 33)) (emptied (isAcked acked field))
       (λ e.
-      emptied-same (upTo acked field k) (isAcked acked field) e
+      emptied-same (upTo acked field 33) (isAcked acked field) e
       (case (isAcked acked field e)
-      (λ q. rw (q, lt-ltb (back acked e) k (near e q)))
+      (λ q. rw (q, lt-ltb (back acked e) 33 (acked-near e q)))
       (λ q. rw q)))
-
-  -- without a bit only the acknowledged number is
-  pub acked-alone : field ≡ 0 → (e : ℕ) → isAcked acked field e ≡ true → back acked e < 1
-  unfolding isAcked
-  acked-alone z e =
-      case (ltb e 65536)
-      (λ q.
-      case (eqb (back acked e) 0)
-      (λ r t. omega (arith, eqb-true (back acked e) 0 r))
-      (λ r. rw (q, r, z, zero-div (2 ^ (back acked e - 1))) (nothing (leb (back acked e) 32))))
-      (λ q. rw q (λ t. both {b = false} t refl))
-    where
-      nothing : (b : Bool) → (b && false) ≡ true → back acked e < 1
-      nothing true t = both {b = false} t refl
-      nothing false t = both {b = false} t refl

@@ -3,7 +3,6 @@
 ghost use mathlib.Core.Path.{_≡_};
 ghost use mathlib.Core.Bool.{true, _||_};
 ghost use mathlib.Core.List.{map};
-ghost use mathlib.Core.Logic.{_⊎_};
 ghost use Prim.Native.Nat.{_-_, _≤_};
 ghost use lib.Dec.{eqb};
 ghost use lib.ListN.{length};
@@ -58,24 +57,13 @@ fn remove_at_home(number: &mut [u32], acked: PacketNumber, field: u32)
     requires { ⌜ (1 ≤ length (now number)) × Home (now number) ⌝ }
     ensures { λ _. ⌜ now (number .exit) ≡ map (emptied (isAcked (acked .0) field)) (now (number .entry)) ⌝ }
 {
-    let end = told_end(field);
     let mut i: u16 = 0;
-    while i < end {
+    while i < 33 {
         if is_told(field, i) {
             remove_own(number, PacketNumber(serial::distance(acked.0, i)));
         }
         i += 1;
     }
-}
-
-// How far before the number that it names an acknowledgment can tell of one.
-fn told_end(field: u32) -> u16
-    ensures { λ r. ⌜ (r ≤ 33) × ((r ≡ 33) ⊎ ((r ≡ 1) × (field ≡ 0))) ⌝ }
-{
-    if field == 0 {
-        return 1;
-    }
-    33
 }
 
 // An acknowledgment tells of the number that is so many before the one it names.

@@ -4,8 +4,9 @@
 // has no number, and `insert` says which slot it took. Every function here is for the crates above.
 ghost use mathlib.Core.Path.{_≡_};
 ghost use mathlib.Core.List.{map};
-ghost use Prim.Native.Nat.{_%_, _≤_, _<_};
-ghost use lib.ListN.{length};
+ghost use Prim.Native.Nat.{ℕ, _%_, _≤_, _<_};
+ghost use lib.ListN.{length, getD};
+ghost use mathlib.Core.Bool.{true, false};
 ghost use Rattle.sequence_buffer.specs.Buffer.{fresh, holds, tooOld, goes, emptied, advancedNum, advancedSlots, inserted, insertedSlots, removedSlots};
 ghost use Rattle.sequence_buffer.specs.Facts.{SlotFacts};
 use serial::PacketNumber;
@@ -119,11 +120,42 @@ fn advance_sequence(sequence_num: u16, slots: &mut [u32], number: u16) -> u16
 fn remove_entries(slots: &mut [u32], whole: bool, from: u16, to: u16)
     ensures { λ _. ⌜ now (slots .exit) ≡ map (emptied (goes whole from to)) (now (slots .entry)) ⌝ }
 {
+    if nothing_goes(slots, whole, from, to) {
+        return;
+    }
     let mut i: usize = 0;
     while i < slots.len() {
         slots[i] = without_passed(slots[i], whole, from, to);
         i += 1;
     }
+}
+
+// A number that comes in order passes only itself, and it is not there. A `false` says nothing.
+fn nothing_goes(slots: &[u32], whole: bool, from: u16, to: u16) -> bool
+    ensures { λ r. ⌜ (r ≡ true → now (slots .entry) ≡ map (emptied (goes whole from to)) (now (slots .entry))) ⌝ }
+{
+    if whole {
+        return false;
+    }
+    if from != to {
+        return false;
+    }
+    !stands(slots, to)
+}
+
+// The number is in a slot, its own or another.
+fn stands(slots: &[u32], number: u16) -> bool
+    ensures { λ r. ⌜ (r ≡ false → (j : ℕ) → j < length (now (slots .entry)) → getD (now (slots .entry)) j 0 ≡ number → ⊥) ⌝ }
+{
+    let mut found = false;
+    let mut i: usize = 0;
+    while i < slots.len() {
+        if slots[i] == number as u32 {
+            found = true;
+        }
+        i += 1;
+    }
+    found
 }
 
 // An entry, or none where it goes.

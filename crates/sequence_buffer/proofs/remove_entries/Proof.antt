@@ -1,3 +1,4 @@
+-- Nothing goes, or after i turns the slots are mapped as far as slot i.
 use borrow.Author.Needs.{needs}
 use Rattle.sequence_buffer.proofs.remove_entries.Statement.{statement}
 use Rattle.sequence_buffer.proofs.remove_entries.Tie as tie
@@ -14,6 +15,15 @@ Inv-loop slots₀ whole from to i₀ slots i = (slots ≡ partly (emptied (goes 
 
 abbrev μ-loop : tie.MeasureT-loop
 μ-loop slots₀ whole from to i₀ slots i = length slots₀ - i
+
+nothing-goes-requires : tie.Need-nothing-goes-requires Inv-loop μ-loop
+nothing-goes-requires c κs = search needs
+
+same-length : tie.Need-same-length Inv-loop μ-loop
+same-length c = refl
+
+returns : tie.Need-returns Inv-loop μ-loop
+returns c = c .before .nothing-goes .ensures (c .if1 .taken)
 
 loop-holds : tie.Need-loop-holds Inv-loop μ-loop
 loop-holds c = (refl, search needs, refl)
@@ -41,7 +51,7 @@ loop-less c = search needs
 
 loop-again : tie.Need-loop-again Inv-loop μ-loop
 loop-again c =
-    let a = c .before .before .before .before .before .args in
+    let a = c .before .before .before .before .before .before .before .before .args in
     let l = c .before .before .before .loop in
     let gone = goes (a .whole) (a .from) (a .to) in (
       rw (c .without-passed .ensures) (partly-more (emptied gone) (l .i) (now (a .slots)) (l .slots) (l .inv .0) (omega arith)),
@@ -49,12 +59,12 @@ loop-again c =
       length-set (l .slots) (l .i) _ ∙ l .inv .2,
     )
 
-same-length : tie.Need-same-length Inv-loop μ-loop
-same-length c = search needs
+same-length-2 : tie.Need-same-length-2 Inv-loop μ-loop
+same-length-2 c = search needs
 
-returns : tie.Need-returns Inv-loop μ-loop
-returns c =
-    let a = c .before .before .before .args in
+returns-2 : tie.Need-returns-2 Inv-loop μ-loop
+returns-2 c =
+    let a = c .before .before .before .before .before .before .args in
     let l = c .before .loop in
     l .inv .0 ∙ partly-all (emptied (goes (a .whole) (a .from) (a .to))) (l .i) (now (a .slots)) (omega arith)
 
@@ -64,6 +74,9 @@ remove-entries-spec =
     (tie.spec
     Inv-loop
     μ-loop
+    nothing-goes-requires
+    same-length
+    returns
     loop-holds
     mul-without-passed
     slice-read-without-passed
@@ -73,5 +86,5 @@ remove-entries-spec =
     add-i
     loop-less
     loop-again
-    same-length
-    returns)
+    same-length-2
+    returns-2)

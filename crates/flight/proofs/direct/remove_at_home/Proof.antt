@@ -13,19 +13,16 @@ use denote.Ref.{now}
 use Rattle.keys.specs.Home.{Home}
 use Rattle.serial.specs.Order.{back}
 use Rattle.sequence_buffer.specs.Buffer.{emptied}
-use Rattle.flight.proofs.Taken.{upTo, home-kept, first-turn, turn, no-turn, last-turn, acked-near, acked-alone}
+use Rattle.flight.proofs.Taken.{upTo, home-kept, first-turn, turn, no-turn, last-turn}
 
 abbrev Inv-loop : tie.InvT-loop
-Inv-loop number₀ acked field end i₀ number i = (i ≤ 33) × (number ≡ map (emptied (upTo (acked .0) field i)) number₀)
+Inv-loop number₀ acked field i₀ number i = (i ≤ 33) × (number ≡ map (emptied (upTo (acked .0) field i)) number₀)
 
 abbrev μ-loop : tie.MeasureT-loop
-μ-loop number₀ acked field end i₀ number i = 33 - i
-
-told-end-requires : tie.Need-told-end-requires Inv-loop μ-loop
-told-end-requires c κs = search needs
+μ-loop number₀ acked field i₀ number i = 33 - i
 
 loop-holds : tie.Need-loop-holds Inv-loop μ-loop
-loop-holds c = (omega arith, first-turn (c .before .before .args .acked .0) (c .before .before .args .field) (search needs) (now (c .before .before .args .number)))
+loop-holds c = (omega arith, first-turn (c .before .args .acked .0) (c .before .args .field) (search needs) (now (c .before .args .number)))
 
 is-told-requires : tie.Need-is-told-requires Inv-loop μ-loop
 is-told-requires c κs = search needs
@@ -36,8 +33,8 @@ distance-requires c κs = search needs
 remove-own-requires : tie.Need-remove-own-requires Inv-loop μ-loop
 remove-own-requires c κs =
     let e = c .before .before .before .before .before .loop .inv .1 in
-    let a = c .before .before .before .before .before .before .before .before .args in
-    (omega (arith, ap length e ∙ length-map (now (a .number)) _, c .before .before .before .before .before .before .before .before .pre .0), subst (λ (t : List ℕ). Home t) (sym e) (home-kept _ (now (a .number)) (c .before .before .before .before .before .before .before .before .pre .1)))
+    let a = c .before .before .before .before .before .before .before .args in
+    (omega (arith, ap length e ∙ length-map (now (a .number)) _, c .before .before .before .before .before .before .before .pre .0), subst (λ (t : List ℕ). Home t) (sym e) (home-kept _ (now (a .number)) (c .before .before .before .before .before .before .before .pre .1)))
 
 add-i : tie.Need-add-i Inv-loop μ-loop
 add-i c = search needs
@@ -48,7 +45,7 @@ loop-less c = search needs
 loop-again : tie.Need-loop-again Inv-loop μ-loop
 loop-again c =
     let l = c .before .before .before .loop in
-    let a = c .before .before .before .before .before .before .args in
+    let a = c .before .before .before .before .before .args in
     let said = c .before .is-told .ensures in
     ⊎-elim
     (λ w. (
@@ -65,21 +62,14 @@ loop-again c =
     (c .if1 .came)
 
 same-length : tie.Need-same-length Inv-loop μ-loop
-same-length c = ap length (c .before .loop .inv .1) ∙ length-map (now (c .before .before .before .before .args .number)) _
+same-length c = ap length (c .before .loop .inv .1) ∙ length-map (now (c .before .before .before .args .number)) _
 
 returns : tie.Need-returns Inv-loop μ-loop
 returns c =
     let l = c .before .loop in
-    let a = c .before .before .before .before .args in
-    let small : a .acked .0 < 65536 = search needs in
-    l .inv .1
-    ∙ last-turn (a .acked .0) (a .field) small (l .i)
-    (λ e q.
-    ⊎-elim
-    (λ z. omega (arith, acked-near (a .acked .0) (a .field) small e q))
-    (λ z. omega (arith, acked-alone (a .acked .0) (a .field) small (z .1) e q))
-    (c .before .before .told-end .ensures .1))
-    (now (a .number))
+    let a = c .before .before .before .args in
+    let e : l .i ≡ 33 = omega arith in
+    l .inv .1 ∙ ap (λ (k : ℕ). map (emptied (upTo (a .acked .0) (a .field) k)) (now (a .number))) e ∙ last-turn (a .acked .0) (a .field) (search needs) (now (a .number))
 
 pub remove-at-home-spec : {M : Type 1} → statement M
 remove-at-home-spec =
@@ -87,7 +77,6 @@ remove-at-home-spec =
     (tie.spec
     Inv-loop
     μ-loop
-    told-end-requires
     loop-holds
     is-told-requires
     distance-requires
