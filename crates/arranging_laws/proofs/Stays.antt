@@ -28,10 +28,10 @@ use Rattle.arranging_laws.proofs.Stored.{Fitting, stored-other, stored-
 
 -- each stream of the four, made or not, is one of its own
 module _ (f : ℕ) (s : States) (w : Whole f s) (j : ℕ) (h : j < 4) where
-  abbrev S : State
+  abbrev pub S : State
   S = stateAt f s j
 
-  fitting : Fitting f S
+  pub fitting : Fitting f S
   fitting =
       record {
         good = state-good f s w j h;
@@ -40,7 +40,7 @@ module _ (f : ℕ) (s : States) (w : Whole f s) (j : ℕ) (h : j < 4) where
         bytes = part-length (s .bytes) (j * (64 * f)) (64 * f) (let q = w .bytes in omega (arith, block-end j (64 * f) h));
       }
 
-  arranged-fits : (i : ℕ) (p : List ℕ) → length p ≤ f → (a : Arranged) → planOf (S .stream) (S .index) i ≡ a → Fitting f (arranged a f i p S)
+  pub arranged-fits : (i : ℕ) (p : List ℕ) → length p ≤ f → (a : Arranged) → planOf (S .stream) (S .index) i ≡ a → Fitting f (arranged a f i p S)
   arranged-fits i p fits Out q =
       record { good = arranged-good f S (fitting .good) i p fits Out q; indices = fitting .indices; lengths = fitting .lengths; bytes = fitting .bytes }
   arranged-fits i p fits (Held k) q =
@@ -55,7 +55,7 @@ module _ (f : ℕ) (s : States) (w : Whole f s) (j : ℕ) (h : j < 4) where
   arranged-fits i p fits Old q = fitting
   arranged-fits i p fits (Refused why) q = fitting
 
-  taken-fits : (t : Taken) → nextOf S ≡ t → Fitting f (taken t f S)
+  pub taken-fits : (t : Taken) → nextOf S ≡ t → Fitting f (taken t f S)
   taken-fits (Item n) q =
       let g = fitting .good in
       record {
@@ -67,10 +67,10 @@ module _ (f : ℕ) (s : States) (w : Whole f s) (j : ℕ) (h : j < 4) where
   taken-fits Nothing q = fitting
   taken-fits (NotTaken why) q = fitting
 
-  abbrev Sent : State
+  abbrev pub Sent : State
   Sent = lending (numbered (S .stream) .stream) (S .index) (S .lengths) (S .bytes)
 
-  sent-fits : Fitting f Sent
+  pub sent-fits : Fitting f Sent
   sent-fits =
       record {
         good = recounted f S Sent (fitting .good) refl refl refl refl;
@@ -94,7 +94,7 @@ module _ (f : ℕ) (s : States) (id : ℕ) (w : Whole f s) where
 
   -- a take that finds an item stores what is left of its stream
   module _ (here : J < s .counters .known .made) where
-    taken-is : takenOn (nextOn f s id) f id s ≡ storedAt f s J id (taken (nextOf (stateAt f s J)) f (stateAt f s J))
+    pub taken-is : takenOn (nextOn f s id) f id s ≡ storedAt f s J id (taken (nextOf (stateAt f s J)) f (stateAt f s J))
     taken-is =
         let long : s .counters .known .made ≤ length (s .counters .known .ids) = let q = few in let l = w .four-ids in omega arith in
         rw (next-here f s id long here) (taken-back f s id long here (nextOf (stateAt f s J)))
@@ -117,7 +117,7 @@ module _ (f : ℕ) (s : States) (id : ℕ) (w : Whole f s) where
       (λ (h : s .counters .known .made ≤ J). rw (taken-away h))
       (lt-or-le J (s .counters .known .made))
 
-  sent-is : (h : J < 4) → storedAt f s J id (Sent f s w J h) ≡ afterSend s id
+  pub sent-is : (h : J < 4) → storedAt f s J id (Sent f s w J h) ≡ afterSend s id
   sent-is h = rw (put-same (s .index) (J * 64) 64, put-same (s .lengths) (J * 64) 64, put-same (s .bytes) (J * (64 * f)) (64 * f))
 
   pub after-send : J < 4 → Whole f (afterSend s id)

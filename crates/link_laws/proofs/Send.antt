@@ -57,7 +57,7 @@ module _ (f : ℕ) (s : States) (k : KeptOrdered f s) (id : ℕ) where
 
   -- a resend stores its stream as it was, and makes it where it was not made
   module _ (h : J < 4) where
-    as-it-was : Fitting f (stateAt f s J)
+    pub as-it-was : Fitting f (stateAt f s J)
     as-it-was =
         let w = k .whole in
         record {
@@ -67,7 +67,7 @@ module _ (f : ℕ) (s : States) (k : KeptOrdered f s) (id : ℕ) where
           bytes = part-length (s .bytes) (J * (64 * f)) (64 * f) (let q = w .bytes in omega (arith, block-end J (64 * f) h));
         }
 
-    again-is : (item : ItemId) → storedAt f s J id (stateAt f s J) ≡ lendingAll (orderedAs (Again item) (s .counters) J id .streams) (s .index) (s .lengths) (s .bytes)
+    pub again-is : (item : ItemId) → storedAt f s J id (stateAt f s J) ≡ lendingAll (orderedAs (Again item) (s .counters) J id .streams) (s .index) (s .lengths) (s .bytes)
     again-is item = rw (put-same (s .index) (J * 64) 64, put-same (s .lengths) (J * 64) 64, put-same (s .bytes) (J * (64 * f)) (64 * f))
 
     ordered-whole : (t : Identifier) → Whole f (lendingAll (orderedAs t (s .counters) J id .streams) (s .index) (s .lengths) (s .bytes))

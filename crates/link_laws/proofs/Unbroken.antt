@@ -49,14 +49,14 @@ taken-items f s k id (Item n) =
 taken-items f s k id Nothing = k .items
 taken-items f s k id (NotTaken why) = k .items
 
-next-narrow : Narrow Next
+pub next-narrow : Narrow Next
 next-narrow item e = absurd (let z : _≡_ {A = ℕ} 0 1 = cc in omega arith)
 
-again-narrow : (item : ItemId) → item .0 < 65536 → Narrow (Again item)
+pub again-narrow : (item : ItemId) → item .0 < 65536 → Narrow (Again item)
 again-narrow item h other e = let q : item ≡ other = cc in rw (sym q) h
 
 module _ (z : Sizes) (s : State) (r : inRange z ≡ true) (k : Kept z s) where
-  kept-receives : (d output : List ℕ) → Bytes d → Kept z (receiveOf z s d output .end)
+  pub kept-receives : (d output : List ℕ) → Bytes d → Kept z (receiveOf z s d output .end)
   unfolding receiveOf
   kept-receives d output bytes = go (gateOf z s output) refl
     where
@@ -64,7 +64,7 @@ module _ (z : Sizes) (s : State) (r : inRange z ≡ true) (k : Kept z s) where
       go (Shut why) e = rw e k
       go Open e = rw e (kept-received z s d output r k bytes (opened z s output e .output-room))
 
-  kept-takes : (id : ℕ) (output : List ℕ) → Kept z (takeOf z s id output .end)
+  pub kept-takes : (id : ℕ) (output : List ℕ) → Kept z (takeOf z s id output .end)
   unfolding takeOf
   kept-takes id output = go (gateOf z s output) refl
     where
@@ -82,7 +82,7 @@ module _ (z : Sizes) (s : State) (r : inRange z ≡ true) (k : Kept z s) where
             sequenced = k .sequenced;
           })
 
-  kept-sends : (delivery : DeliveryGuarantee) (ordering : OrderingGuarantee) (stream : ℕ) (payload output : List ℕ) → stream < 256
+  pub kept-sends : (delivery : DeliveryGuarantee) (ordering : OrderingGuarantee) (stream : ℕ) (payload output : List ℕ) → stream < 256
       → Kept z (sendOf z s delivery ordering stream payload output .end)
   unfolding sendOf
   kept-sends delivery ordering stream payload output byte = go (gateOf z s output) refl
@@ -91,7 +91,7 @@ module _ (z : Sizes) (s : State) (r : inRange z ≡ true) (k : Kept z s) where
       go (Shut why) e = rw e k
       go Open e = rw e (kept-transmitted z s (record { delivery = delivery; ordering = ordering; stream = stream; identifier = Next }) payload output r k byte next-narrow)
 
-  kept-resends : (sent : SentPacket) (payload output : List ℕ) → Typed sent → Kept z (resendOf z s sent payload output .end)
+  pub kept-resends : (sent : SentPacket) (payload output : List ℕ) → Typed sent → Kept z (resendOf z s sent payload output .end)
   unfolding resendOf
   kept-resends sent payload output t = go (gateOf z s output) refl
     where
@@ -101,7 +101,7 @@ module _ (z : Sizes) (s : State) (r : inRange z ≡ true) (k : Kept z s) where
           case (leb 3 (sent .ordering)) (λ q. rw (e, q) k)
           (λ q. rw (e, q) (kept-transmitted z s (itemAgain sent) payload output r k (t .stream-byte) (again-narrow (sent .item) (t .item-word))))
 
-  kept-drops : (output : List ℕ) → Kept z (dropped z s output)
+  pub kept-drops : (output : List ℕ) → Kept z (dropped z s output)
   kept-drops output = go (dropOf z s output) refl
     where
       go : (a : DroppedPackets) → dropOf z s output ≡ a → Kept z (dropped z s output)
