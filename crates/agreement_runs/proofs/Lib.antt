@@ -1,0 +1,2 @@
+pub mod May
+pub mod Computed
