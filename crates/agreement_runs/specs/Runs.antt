@@ -13,6 +13,7 @@ use Rattle.ends.specs.declared.End.{End}
 use Rattle.receiving.specs.Plan.{numberOfAnswer}
 use Rattle.link.specs.Calls.{sendOf, receiveOf}
 use Rattle.link_laws.specs.Calls.{Call, sends as sendsOn}
+use Rattle.link_laws.specs.Never.{New}
 use Rattle.agreement.specs.World.{Pair, World, start, noCopy}
 use Rattle.agreement.specs.Agreement.{Mays}
 use Rattle.agreement.specs.Events.{Event, sends, resends, drops, hears, arrives, takes, others, run}
@@ -53,19 +54,19 @@ rising (suc n) = arrives n out ∷ takes out ∷ rising n
 unfoldable pub losing : List Event
 losing = sending 40 0 ++ (coming 39 0 ++ coming 39 0)
 
-unfoldable pub lost : World
-lost = run pair (start (lent freshEnd) (lent freshEnd)) losing
+unfoldable pub lostFrom : End → World
+lostFrom end = run pair (start (lent end) (lent end)) losing
 
 -- the receiver sends something else, which acknowledges what it has; the sender hears it, drops the lost packet and sends it again
-unfoldable pub told : List ℕ
-told = take 14 (sendOf sizes (lost .receiver) Reliable None 0 (5 ∷ []) out .output)
+unfoldable pub toldBy : World → List ℕ
+toldBy w = take 14 (sendOf sizes (w .receiver) Reliable None 0 (5 ∷ []) out .output)
 
-unfoldable pub resending : List Event
-resending =
-    others (sendsOn Reliable None 0 (5 ∷ []) out) ∷ hears told out ∷ drops out ∷ resends 0 out ∷ arrives 0 out ∷ replicate 40 (takes out)
+unfoldable pub resending : World → List Event
+resending w =
+    others (sendsOn Reliable None 0 (5 ∷ []) out) ∷ hears (toldBy w) out ∷ drops out ∷ resends 0 out ∷ arrives 0 out ∷ replicate 40 (takes out)
 
-unfoldable pub resent : World
-resent = run pair lost resending
+unfoldable pub resentFrom : End → World
+resentFrom end = run pair (lostFrom end) (resending (lostFrom end))
 
 -- 66 items are sent; items 1 to 64 come and are held, and item 65 is refused 6; then item 0 comes, and item 65 again
 unfoldable pub filling : List Event
@@ -80,7 +81,7 @@ emptying = arrives 65 out ∷ replicate 65 (takes out) ++ (arrives 0 out ∷ tak
 unfoldable pub emptied : World
 emptied = run pair filled emptying
 
--- two ends that have exchanged 65,530 items send 12 more, which come with the last first, but for the first, each twice
+-- two ends that have exchanged 65,510 items, so that the 40 items cross 65,535
 abbrev pub later : End
 later =
     record {
@@ -88,22 +89,23 @@ later =
       reassembly = freshEnd .reassembly;
       ordering = record {
         known = record { made = 1; ids = 3 ∷ replicate 3 0 };
-        streams = record { «expected_index» = record { 0 = 65530 }; held = 0; «next_item» = record { 0 = 65530 } } ∷ replicate 3 freshStream;
+        streams = record { «expected_index» = record { 0 = 65510 }; held = 0; «next_item» = record { 0 = 65510 } } ∷ replicate 3 freshStream;
       };
       sequencing = freshEnd .sequencing;
     }
 
-unfoldable pub crossed : World
-crossed = run pair (start (lent later) (lent later)) (sending 12 0 ++ (coming 11 0 ++ (coming 12 0 ++ replicate 12 (takes out))))
-
 pub record Runs : Type 0 where
-  -- they may happen, as `agreement` has it,
+  -- the ends are fresh, and the runs may happen, as `agreement` has both,
+  pub fresh-ends : New sizes (lent freshEnd) out
   pub losing-may : Mays pair (start (lent freshEnd) (lent freshEnd)) losing
-  pub resending-may : Mays pair lost resending
+  pub resending-may : Mays pair (lostFrom freshEnd) (resending (lostFrom freshEnd))
   pub filling-may : Mays pair (start (lent freshEnd) (lent freshEnd)) filling
   pub emptying-may : Mays pair filled emptying
   -- and this is what they come to
-  pub resent-handed : resent .handed ≡ payloads 40 0
+  pub resent-handed : resentFrom freshEnd .handed ≡ payloads 40 0
   pub filled-told : numberOfAnswer (receiveOf sizes (filled .receiver) (getD (filled .line) 0 noCopy .datagram) out .answer) ≡ 6
   pub emptied-handed : emptied .handed ≡ payloads 66 0
-  pub crossed-handed : crossed .handed ≡ payloads 12 0
+  -- across 65,535 too
+  pub crossing-may : Mays pair (start (lent later) (lent later)) losing
+  pub crossing-again-may : Mays pair (lostFrom later) (resending (lostFrom later))
+  pub crossed-handed : resentFrom later .handed ≡ payloads 40 0
