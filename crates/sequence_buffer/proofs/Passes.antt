@@ -1,6 +1,6 @@
 -- Slots of which nothing goes. Assumes nothing.
 use mathlib.Core.Path.{_≡_, refl}
-use mathlib.Core.Bool.{Bool, false}
+use mathlib.Core.Bool.{Bool, false, _&&_}
 use mathlib.Core.List.{List, [], _∷_, map}
 use mathlib.Core.Logic.{⊎-elim}
 use Prim.Native.Nat.{ℕ, suc, _≤_, _<_, zero-le, suc-le-suc}
@@ -25,7 +25,9 @@ only-itself : (n e : ℕ) → n < 65536 → (e ≡ n → ⊥) → goes false n n
 unfolding goes
 only-itself n e small apart =
     ⊎-elim
-    (λ v. rw (lt-ltb e 65536 v, lt-leb (back e n) (back n n) (later n e small v apart)))
+    (λ v.
+    let beyond : (ltb e 65536 && leb (back e n) (back n n)) ≡ false = rw (lt-ltb e 65536 v, lt-leb (back e n) (back n n) (later n e small v apart)) in
+    beyond)
     (λ v. rw (le-ltb e 65536 v))
     (lt-or-le e 65536)
   where
