@@ -47,16 +47,6 @@ pub fn read(version: u16, datagram: &[u8]) -> Read
     reader.read_headers(version)
 }
 
-// Where the payload starts; a refusal leaves the position.
-fn position_after(answer: Read, position: usize) -> usize
-    ensures { λ r. ⌜ r ≡ positionAfter answer position ⌝ }
-{
-    match answer {
-        Read::Found { headers: _, at } => at,
-        Read::Refused(_) => position,
-    }
-}
-
 // The bytes of a slice from a position on; none where it lies past the end.
 pub fn rest(buffer: &[u8], position: usize) -> &[u8]
     ensures { λ r. ⌜ now r ≡ drop position (now (buffer .entry)) ⌝ }
@@ -65,4 +55,14 @@ pub fn rest(buffer: &[u8], position: usize) -> &[u8]
         return &buffer[buffer.len()..];
     }
     &buffer[position..]
+}
+
+// Where the payload starts; a refusal leaves the position.
+fn position_after(answer: Read, position: usize) -> usize
+    ensures { λ r. ⌜ r ≡ positionAfter answer position ⌝ }
+{
+    match answer {
+        Read::Found { headers: _, at } => at,
+        Read::Refused(_) => position,
+    }
 }
