@@ -2,14 +2,17 @@
 // says which of the 32 before it are in the record. Read `ack_bitfield` first. The record is a sequence buffer: the
 // number after the newest by value, its slots lent. Every function here is for the crates above.
 ghost use mathlib.Core.Path.{_≡_};
-ghost use Prim.Native.Nat.{_≤_};
+ghost use mathlib.Core.Bool.{cond};
+ghost use Prim.Native.Nat.{_+_, _≤_, _<_};
 ghost use lib.ListN.{length};
+ghost use lib.Dec.{ltb};
+ghost use Rattle.laws.specs.Bits.{bitsBelow};
 ghost use Rattle.received.specs.Record.{slotCount, slotsOf, recorded};
-ghost use Rattle.received.specs.Field.{newestOf, fieldOf, FieldFacts};
+ghost use Rattle.received.specs.Field.{newestOf, heard, fieldOf, Downwards, FieldFacts};
 ghost use Rattle.sequence_buffer.specs.Buffer.{inserted};
 use sequence_buffer::Inserted;
-use sequence_buffer::exists;
 use sequence_buffer::insert;
+use sequence_buffer::slot;
 use serial::PacketNumber;
 
 // How many slots the record has. What is lent beyond them is not the record's.
@@ -29,14 +32,11 @@ pub fn ack_bitfield(sequence_num: PacketNumber, received: &[u32]) -> u32
 {
     let newest = remote_sequence_num(sequence_num);
     let slots = &received[..SLOTS];
-    let mut field: u32 = 0;
-    for k in 0..32 {
-        let number = PacketNumber(serial::distance(newest.0, k + 1));
-        if exists(slots, number) {
-            field = field | (1 << k);
-        }
-    }
-    field
+    let first = serial::distance(newest.0, 1);
+    let at = slot(SLOTS, PacketNumber(first));
+    let bottom = bits_to_bottom(at);
+    let field = bits(newest.0, slots, at, 0, bottom, 0);
+    bits(newest.0, slots, at + slots_above(first), bottom, 32, field)
 }
 
 // Puts a number into the record, unless it is too old. Requires the record's slots.
@@ -46,6 +46,41 @@ pub fn receive(sequence_num: PacketNumber, received: &mut [u32], number: PacketN
     ensures { λ _. ⌜ now (received .exit) ≡ recorded («sequence_num» .0) (now (received .entry)) (number .0) ⌝ }
 {
     insert(sequence_num, &mut received[..SLOTS], number)
+}
+
+// The bits from one to another, where the numbers stand in slots one below the other: no number's slot needs a remainder.
+fn bits(newest: u16, slots: &[u32], top: usize, from: usize, to: usize, below: u32) -> u32
+    requires { ⌜ (length (now slots) ≡ slotCount) × (to ≤ 32) × (from ≤ to) × Downwards newest top from to × (below ≡ bitsBelow (heard newest (now slots)) from) ⌝ }
+    ensures { λ r. ⌜ r ≡ bitsBelow (heard newest (now (slots .entry))) to ⌝ }
+{
+    let mut field = below;
+    for k in from..to {
+        if slots[top - k] == serial::distance(newest, k as u16 + 1) as u32 {
+            field = field | (1 << k);
+        }
+    }
+    field
+}
+
+// How many of the 32 numbers stand from the first one's slot down to slot 0.
+fn bits_to_bottom(at: usize) -> usize
+    requires { ⌜ at < slotCount ⌝ }
+    ensures { λ r. ⌜ r ≡ cond (ltb at 32) (at + 1) 32 ⌝ }
+{
+    if at < 32 {
+        return at + 1;
+    }
+    32
+}
+
+// How much higher the slots go on after slot 0: at slot 32, but the number before 0 is 65,535, whose slot is 30.
+fn slots_above(first: u16) -> usize
+    ensures { λ r. ⌜ r ≡ cond (ltb first slotCount) 31 33 ⌝ }
+{
+    if first < 33 {
+        return 31;
+    }
+    33
 }
 
 // What the field says, bit by bit. It has no code: its contract is the theorem.

@@ -1,90 +1,78 @@
--- After k turns the field is the sum over the first k bits; one turn is `bits-taken` or `bits-left`.
+-- The slots of the 32 numbers go down twice (`Walk`), and `bits` adds the bits of each way down.
 use borrow.Author.Needs.{needs}
 use Rattle.received.proofs.ack_bitfield.Statement.{statement}
 use Rattle.received.proofs.ack_bitfield.Tie as tie
-use mathlib.Core.Path.{_≡_, refl, sym, ap, _∙_}
-use mathlib.Core.Logic.{⊎-elim}
-use Prim.Native.Nat.{ℕ, _+_, _-_, _≤_}
+use mathlib.Core.Path.{_≡_, sym, ap, _∙_}
+use Prim.Native.Nat.{ℕ, _+_, _≤_, _<_}
 use native.Mathlib.Omega.{arith}
 use denote.Ref.{now}
 use lib.Seq.{length-take-le}
+use lib.ListN.{length}
 use Rattle.laws.specs.Bits.{bitsBelow}
-use Rattle.laws.proofs.Bits.{bits-zero, bits-taken, bits-left}
-use Rattle.sequence_buffer.specs.Buffer.{holds}
+use Rattle.laws.proofs.Bits.{bits-zero}
 use Rattle.received.specs.Record.{slotCount, slotsOf}
-use Rattle.received.specs.Field.{heard, fieldOf}
+use Rattle.received.specs.Field.{heard, fieldOf, Downwards}
+use Rattle.received.proofs.Walk.{up-most, bottom-most, to-bottom, from-above}
 
-abbrev Inv-loop : tie.InvT-loop
-Inv-loop received newest slots field₀ k₀ field k = (field ≡ bitsBelow (heard (newest .0) (slotsOf received)) k) × (k ≤ 32)
+slots-are : (c : tie.Start) → length (slotsOf (now (c .args .received))) ≡ slotCount
+slots-are c = length-take-le slotCount (now (c .args .received)) (c .pre)
 
-abbrev μ-loop : tie.MeasureT-loop
-μ-loop received newest slots field₀ k₀ field k = 32 - k
+word : (c : tie.After-remote-sequence-num) → c .remote-sequence-num .result .0 < 65536
+word c = omega (arith, c .remote-sequence-num .ensures)
 
-remote-sequence-num-requires : tie.Need-remote-sequence-num-requires Inv-loop μ-loop
+most : (c : tie.After-bits-to-bottom) → c .bits-to-bottom .result ≤ 32
+most c = bottom-most _ _ _ _ (word (c .before .before .before .before)) (c .before .before .distance .ensures) (c .before .slot .ensures .0) (c .bits-to-bottom .ensures) .0
+
+first-way : (c : tie.After-bits-to-bottom) → Downwards (c .before .before .before .before .remote-sequence-num .result .0) (c .before .slot .result) 0 (c .bits-to-bottom .result)
+first-way c = to-bottom _ _ _ _ (word (c .before .before .before .before)) (c .before .before .distance .ensures) (c .before .slot .ensures .0) (c .bits-to-bottom .ensures)
+
+second-way : (c : tie.After-slots-above) → Downwards (c .before .before .before .before .before .before .remote-sequence-num .result .0) (c .before .before .before .slot .result + c .slots-above .result) (c .before .before .bits-to-bottom .result) 32
+second-way c = from-above _ _ _ _ (word (c .before .before .before .before .before .before)) (c .before .before .before .before .distance .ensures) (c .before .before .before .slot .ensures .0) (c .before .before .bits-to-bottom .ensures) _ (c .slots-above .ensures)
+
+remote-sequence-num-requires : tie.Need-remote-sequence-num-requires
 remote-sequence-num-requires c κs = search needs
 
-slice-aggregate-slots : tie.Need-slice-aggregate-slots Inv-loop μ-loop
-slice-aggregate-slots c = omega (arith, length-take-le slotCount (now (c .before .before .before .args .received)) (c .before .before .before .pre))
+slice-aggregate-slots : tie.Need-slice-aggregate-slots
+slice-aggregate-slots c = sym (slots-are (c .before .before .before))
 
-loop-holds : tie.Need-loop-holds Inv-loop μ-loop
-loop-holds c = (sym (bits-zero _), omega arith)
-
-add-distance : tie.Need-add-distance Inv-loop μ-loop
-add-distance c = search needs
-
-distance-requires : tie.Need-distance-requires Inv-loop μ-loop
+distance-requires : tie.Need-distance-requires
 distance-requires c κs = search needs
 
-exists-requires : tie.Need-exists-requires Inv-loop μ-loop
-exists-requires c κs = omega (arith, length-take-le slotCount (now (c .before .before .before .before .before .before .args .received)) (c .before .before .before .before .before .before .pre))
+slot-requires : tie.Need-slot-requires
+slot-requires c κs = search needs
 
-cast-field : tie.Need-cast-field Inv-loop μ-loop
-cast-field c = search needs
+bits-to-bottom-requires : tie.Need-bits-to-bottom-requires
+bits-to-bottom-requires c κs = search needs
 
-shl-field : tie.Need-shl-field Inv-loop μ-loop
-shl-field c = search needs
+bits-requires : tie.Need-bits-requires
+bits-requires c κs = (slots-are (c .before .before .before .before .before .before), most c, omega arith, first-way c, sym (bits-zero _))
 
-add-k : tie.Need-add-k Inv-loop μ-loop
-add-k c = search needs
+slots-above-requires : tie.Need-slots-above-requires
+slots-above-requires c κs = search needs
 
-loop-less : tie.Need-loop-less Inv-loop μ-loop
-loop-less c = search needs
+add-bits : tie.Need-add-bits
+add-bits c = omega (arith, c .before .before .before .slot .ensures .1, up-most (c .before .before .before .before .distance .result) _ (c .slots-above .ensures))
 
-loop-again : tie.Need-loop-again Inv-loop μ-loop
-loop-again c =
-    let l = c .before .before .before .before .loop in
-    let slots = slotsOf (now (c .before .before .before .before .before .before .before .before .args .received)) in
-    let p = heard (c .before .before .before .before .before .before .remote-sequence-num .result .0) slots in
-    let said : p (l .k) ≡ c .before .exists .result = sym (c .before .exists .ensures ∙ ap (holds slots) (c .before .before .distance .ensures)) in
-    ⊎-elim
-    (λ w. (w .1 ∙ bits-taken p (l .k) (l .field) (l .inv .0) (omega arith) (said ∙ w .0 .taken), omega arith))
-    (λ w. (w .1 ∙ bits-left p (l .k) (l .field) (l .inv .0) (said ∙ w .0 .left), omega arith))
-    (c .if1 .came)
+bits-requires-2 : tie.Need-bits-requires-2
+bits-requires-2 c κs = (slots-are (c .before .before .before .before .before .before .before .before), omega arith, most (c .before .before), second-way c, c .before .bits .ensures)
 
-returns : tie.Need-returns Inv-loop μ-loop
+returns : tie.Need-returns
 unfolding fieldOf
 returns c =
-    let slots = slotsOf (now (c .before .before .before .before .before .args .received)) in
-    let e : c .before .loop .k ≡ 32 = omega arith in
-    c .before .loop .inv .0
-    ∙ ap (bitsBelow (heard (c .before .before .before .remote-sequence-num .result .0) slots)) e
-    ∙ ap (λ (top : ℕ). bitsBelow (heard top slots) 32) (c .before .before .before .remote-sequence-num .ensures)
+    c .bits2 .ensures
+    ∙ ap (λ (top : ℕ). bitsBelow (heard top (slotsOf (now (c .before .before .before .before .before .before .before .before .before .args .received)))) 32) (c .before .before .before .before .before .before .before .remote-sequence-num .ensures)
 
 pub ack-bitfield-spec : {M : Type 1} → statement M
 ack-bitfield-spec =
     tie.close
     (tie.spec
-    Inv-loop
-    μ-loop
     remote-sequence-num-requires
     slice-aggregate-slots
-    loop-holds
-    add-distance
     distance-requires
-    exists-requires
-    cast-field
-    shl-field
-    add-k
-    loop-less
-    loop-again
+    slot-requires
+    bits-to-bottom-requires
+    bits-requires
+    slots-above-requires
+    add-bits
+    bits-requires-2
     returns)
