@@ -1,7 +1,7 @@
 -- The datagram that an item is reads back as that item. Assumes nothing.
 use Prim.Native.Nat.{ℕ, _+_, _≤_, _<_}
 use mathlib.Core.Path.{_≡_, refl, sym, ap, _∙_}
-use mathlib.Core.Bool.{true, false, not, _&&_}
+use mathlib.Core.Bool.{Bool, true, false, cond, not, _&&_}
 use mathlib.Core.List.{List}
 use native.Mathlib.Nat.{mod-lt}
 use native.Mathlib.Omega.{arith}
@@ -18,9 +18,10 @@ use Rattle.received.specs.Record.{slotsOf}
 use Rattle.received.proofs.Facts.{facts as field-facts}
 use Rattle.acknowledgment.specs.declared.Acknowledgment.{Acknowledgment}
 use Rattle.splitter.specs.Split.{needed}
-use Rattle.packet.specs.Table.{rule, listed, follows}
-use Rattle.packet.specs.Read.{misfit, readOf}
+use Rattle.packet.specs.Table.{rule, listed, follows, hasAcked}
+use Rattle.packet.specs.Read.{noAcked, misfit, readOf}
 use Rattle.packet.specs.Inverse.{Fits, carried, start}
+use Rattle.packet.specs.declared.AckedPacketHeader.{AckedPacketHeader}
 use Rattle.packet.specs.declared.Headers.{Headers}
 use Rattle.packet.specs.declared.Read.the-variants.{Found}
 use Rattle.packet.specs.declared.PacketType.the-variants.{Packet, Fragment}
@@ -30,7 +31,7 @@ use Rattle.packet.specs.declared.OrderingGuarantee.{OrderingGuarantee}
 use Rattle.packet.specs.declared.OrderingGuarantee.the-variants.{None, Sequenced, Ordered}
 use Rattle.packet.proofs.Theorems.{layout-reads}
 use Rattle.sending.specs.Plan.{isListed, isSplit, isLong}
-use Rattle.sending.specs.Datagrams.{typeFor, countOf, headersFor, datagramFor}
+use Rattle.sending.specs.Datagrams.{typeFor, countOf, ackedNow, headersFor, datagramFor}
 use Rattle.sending.specs.declared.Item.{Item}
 use Rattle.agreement.proofs.Wire.{Saying, Beyond}
 
@@ -74,16 +75,24 @@ module _ (z : Sizes) (range : inRange z ≡ true) (word : z .version < 65536) (i
   unfolding countOf
   count-small = case (ltb f n) (λ e. rw e (let m = in-range-means z range .m .1 in omega arith)) (λ e. rw e (omega arith))
 
+  abbrev told : Bool → AckedPacketHeader
+  told there = cond there (ackedNow (c .«sequence_number») c received) noAcked
+
+  told-fits : (there : Bool) → (told there .number .0 < 65536) × (told there .acked .0 < 65536) × (told there .field < 4294967296)
+  told-fits true = (next, mod-lt (c .received .0 + 65535) {m = 65536} (omega arith), field-facts .small (c .received .0) (slotsOf received))
+  told-fits false = (omega arith, omega arith, omega arith)
+
   fits : Fits (z .version) H
   fits =
+      let t = told-fits (hasAcked (follows (H .standard)) 0) in
       record {
         version = word;
         fragment-number = next;
         id = omega arith;
         count = count-small;
-        number = next;
-        acked = mod-lt (c .received .0 + 65535) {m = 65536} (omega arith);
-        field = field-facts .small (c .received .0) (slotsOf received);
+        number = t .0;
+        acked = t .1;
+        field = t .2;
         index = item-word;
         stream = byte;
       }

@@ -12,10 +12,11 @@ use Rattle.received.specs.Record.{slotsOf}
 use Rattle.received.specs.Field.{newestOf, fieldOf}
 use Rattle.acknowledgment.specs.declared.Acknowledgment.{Acknowledgment}
 use Rattle.splitter.specs.Split.{needed}
-use Rattle.packet.specs.Table.{follows}
+use Rattle.packet.specs.Table.{follows, hasAcked}
 use Rattle.packet.specs.Layout.{payloadAt, datagram}
-use Rattle.packet.specs.Read.{misfit}
+use Rattle.packet.specs.Read.{noAcked, misfit}
 use Rattle.packet.specs.declared.Headers.{Headers}
+use Rattle.packet.specs.declared.StandardHeader.{StandardHeader}
 use Rattle.packet.specs.declared.AckedPacketHeader.{AckedPacketHeader}
 use Rattle.packet.specs.declared.PacketType.{PacketType}
 use Rattle.packet.specs.declared.PacketType.the-variants.{Packet, Fragment}
@@ -33,13 +34,21 @@ abbrev pub ackedNow : PacketNumber → Acknowledgment → List ℕ → AckedPack
 ackedNow number c received =
     record { number = number; acked = record { 0 = newestOf (c .received .0) }; field = fieldOf (c .received .0) (slotsOf received) }
 
+-- a datagram has it where the table says that it follows; a header that does not has 0 in every field, and is not written
+abbrev pub ackedFor : StandardHeader → ℕ → PacketNumber → Acknowledgment → List ℕ → AckedPacketHeader
+ackedFor s id number c received = cond (hasAcked (follows s) id) (ackedNow number c received) noAcked
+
+-- the standard header of an item's first datagram
+abbrev pub standardFor : ℕ → Item → ℕ → StandardHeader
+standardFor f i n = record { «packet_type» = typeFor f n; delivery = i .delivery; ordering = i .ordering }
+
 -- the headers of an item's first datagram; which of them are written is the table's
 abbrev pub headersFor : ℕ → Item → ItemId → Acknowledgment → List ℕ → ℕ → Headers
 headersFor f i id c received n =
     record {
-      standard = record { «packet_type» = typeFor f n; delivery = i .delivery; ordering = i .ordering };
+      standard = standardFor f i n;
       fragment = record { number = c .«sequence_number»; id = 0; count = countOf f n };
-      acked = ackedNow (c .«sequence_number») c received;
+      acked = ackedFor (standardFor f i n) 0 (c .«sequence_number») c received;
       arranging = record { index = id; stream = i .stream };
     }
 

@@ -16,20 +16,25 @@ use Rattle.splitter.specs.Split.{needed, pieces}
 use Rattle.packet.specs.Layout.{datagram}
 use Rattle.packet.specs.Read.{noArranging}
 use Rattle.packet.specs.declared.Headers.{Headers}
+use Rattle.packet.specs.declared.StandardHeader.{StandardHeader}
 use Rattle.packet.specs.declared.PacketType.the-variants.{Fragment}
 use Rattle.packet.specs.declared.DeliveryGuarantee.the-variants.{Reliable}
 use Rattle.packet.specs.declared.OrderingGuarantee.the-variants.{None}
-use Rattle.sending.specs.Datagrams.{ackedNow, over}
+use Rattle.sending.specs.Datagrams.{ackedFor, over}
 use Rattle.sending.specs.declared.further.Further.{Further}
 use Rattle.sending.specs.declared.further.Further.the-variants.{Datagram, Nothing, Refused}
 
--- fragment j of a packet; only fragment 0 has the acknowledgment header
+-- the standard header of a fragment
+abbrev pub fragmentStandard : StandardHeader
+fragmentStandard = record { «packet_type» = Fragment; delivery = Reliable; ordering = None }
+
+-- fragment j of a packet; by the table only fragment 0 has the acknowledgment header
 abbrev pub furtherHeaders : Acknowledgment → List ℕ → PacketNumber → ℕ → ℕ → Headers
 furtherHeaders c received number j total =
     record {
-      standard = record { «packet_type» = Fragment; delivery = Reliable; ordering = None };
+      standard = fragmentStandard;
       fragment = record { number = number; id = j; count = total };
-      acked = ackedNow number c received;
+      acked = ackedFor fragmentStandard j number c received;
       arranging = noArranging;
     }
 

@@ -4,7 +4,7 @@ ghost use Prim.Native.Nat.{_≤_, _<_};
 ghost use lib.ListN.{length, take};
 ghost use Rattle.received.specs.Record.{slotCount};
 ghost use Rattle.packet.specs.Layout.{datagram};
-ghost use Rattle.sending.specs.Datagrams.{ackedNow, typeFor, headersFor, datagramFor, countOf, Writable, Writes};
+ghost use Rattle.sending.specs.Datagrams.{ackedFor, typeFor, headersFor, datagramFor, countOf, Writable, Writes};
 use crate::Item;
 use acknowledgment::Acknowledgment;
 use packet::AckedPacketHeader;
@@ -14,6 +14,7 @@ use packet::FragmentHeader;
 use packet::Headers;
 use packet::PacketType;
 use packet::StandardHeader;
+use packet::table;
 use serial::ItemId;
 use serial::PacketNumber;
 
@@ -50,18 +51,19 @@ fn headers(
     let number = acks.sequence_number;
     let delivery = item.delivery;
     let ordering = item.ordering;
+    let standard = StandardHeader {
+        packet_type: packet_type(f, size),
+        delivery,
+        ordering,
+    };
     Headers {
-        standard: StandardHeader {
-            packet_type: packet_type(f, size),
-            delivery,
-            ordering,
-        },
+        standard,
         fragment: FragmentHeader {
             number,
             id: 0,
             count: count(f, size) as u8,
         },
-        acked: acknowledge(number, acks, received),
+        acked: acknowledge(standard, 0, number, acks, received),
         arranging: ArrangingHeader {
             index: id,
             stream: item.stream,
@@ -69,19 +71,29 @@ fn headers(
     }
 }
 
-// What an end tells of the packets that it has received, in a packet of its own.
+// What an end tells of the packets that it has received, in a packet of its own. Where the datagram has no such header, the
+// field is not made: zeros stand for it, and are not written.
 pub fn acknowledge(
+    standard: StandardHeader,
+    id: u8,
     number: PacketNumber,
     acks: Acknowledgment,
     received: &[u32],
 ) -> AckedPacketHeader
     requires { ⌜ slotCount ≤ length (now received) ⌝ }
-    ensures { λ r. ⌜ r ≡ ackedNow number acks (now (received .entry)) ⌝ }
+    ensures { λ r. ⌜ r ≡ ackedFor standard id number acks (now (received .entry)) ⌝ }
 {
+    if table::has_acked(table::headers_after(standard), id) {
+        return AckedPacketHeader {
+            number,
+            acked: acks.remote_sequence_num(),
+            field: received::ack_bitfield(acks.received, received),
+        };
+    }
     AckedPacketHeader {
-        number,
-        acked: acks.remote_sequence_num(),
-        field: received::ack_bitfield(acks.received, received),
+        number: PacketNumber(0),
+        acked: PacketNumber(0),
+        field: 0,
     }
 }
 

@@ -83,18 +83,20 @@ fn headers(
     requires { ⌜ (slotCount ≤ length (now received)) × (j < 256) × (total < 256) ⌝ }
     ensures { λ r. ⌜ r ≡ furtherHeaders acks (now (received .entry)) number j total ⌝ }
 {
+    let standard = StandardHeader {
+        packet_type: PacketType::Fragment,
+        delivery: DeliveryGuarantee::Reliable,
+        ordering: OrderingGuarantee::None,
+    };
+    let id = j as u8;
     Headers {
-        standard: StandardHeader {
-            packet_type: PacketType::Fragment,
-            delivery: DeliveryGuarantee::Reliable,
-            ordering: OrderingGuarantee::None,
-        },
+        standard,
         fragment: FragmentHeader {
             number,
-            id: j as u8,
+            id,
             count: total as u8,
         },
-        acked: datagrams::acknowledge(number, acks, received),
+        acked: datagrams::acknowledge(standard, id, number, acks, received),
         arranging: ArrangingHeader {
             index: ItemId(0),
             stream: 0,

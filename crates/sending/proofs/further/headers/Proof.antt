@@ -2,8 +2,8 @@ use borrow.Author.Needs.{needs}
 use Rattle.sending.proofs.further.headers.Statement.{statement}
 use Rattle.sending.proofs.further.headers.Tie as tie
 
-cast-t10 : tie.Need-cast-t10
-cast-t10 c = search needs
+cast-id : tie.Need-cast-id
+cast-id c = search needs
 
 cast-t11 : tie.Need-cast-t11
 cast-t11 c = search needs
@@ -15,4 +15,4 @@ returns : tie.Need-returns
 returns c = rw (c .acknowledge .ensures)
 
 pub headers-spec : {M : Type 1} → statement M
-headers-spec = tie.close (tie.spec cast-t10 cast-t11 acknowledge-requires returns)
+headers-spec = tie.close (tie.spec cast-id cast-t11 acknowledge-requires returns)
