@@ -72,18 +72,28 @@ fn is_part_home(
     false
 }
 
-// No length in the part is over its slot: not even that of which each bit is set that any has.
+// No length in the part is over its slot. Of a record above the limit, the record or what is left of the limit has its
+// highest bit.
 fn do_fit(records: &[u64], at: usize, room: usize) -> bool
     requires { ⌜ (at + 32 ≤ length (now records)) × (room ≤ 16384) ⌝ }
     ensures { λ r. ⌜ (r ≡ true → (k : ℕ) → k < 32 → lengthOf (getD (now (records .entry)) (at + k) 0) ≤ room) ⌝ }
 {
+    let limit = room as u64 * 4294967296 + 4294967295;
     let mut all: u64 = 0;
     let mut k: usize = 0;
     while k < keys::parts::PART {
-        all = all | records[at + k];
+        all = all | with_rest(records[at + k], limit);
         k += 1;
     }
-    all < (room as u64 + 1) * 4294967296
+    all < 9223372036854775808
+}
+
+// The bits of a word, and of what is left of a limit after it.
+fn with_rest(word: u64, limit: u64) -> u64
+    requires { ⌜ limit < 9223372036854775808 ⌝ }
+    ensures { λ r. ⌜ (r < 9223372036854775808 → word ≤ limit) ⌝ }
+{
+    word | std::num::wrapping_sub_u64(limit, word)
 }
 
 // Not 13, as `places::is_sound` tells it, quickly where the table is at home. Requires a record for each place.
