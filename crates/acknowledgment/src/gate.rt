@@ -36,7 +36,7 @@ pub fn is_flight_lent(sizes: Sizes, number: &[u32], records: &[u64]) -> bool
     sizes.packets_in_flight <= number.len() && sizes.packets_in_flight <= records.len()
 }
 
-// Not 13. For the crates above: requires sizes in range, and what is lent to be as long as stated.
+// Not 13, by a walk. Requires sizes in range, and what is lent to be as long as stated.
 pub fn is_sound(sizes: Sizes, received: &[u32], number: &[u32], records: &[u64]) -> bool
     requires { ⌜ (inRange sizes ≡ true) × (slotCount ≤ length (now received)) × (sizes .«packets_in_flight» ≤ length (now number)) × (sizes .«packets_in_flight» ≤ length (now records)) ⌝ }
     ensures { λ r. ⌜ r ≡ sound sizes (now (received .entry)) (now (number .entry)) (now (records .entry)) ⌝ }
@@ -44,7 +44,7 @@ pub fn is_sound(sizes: Sizes, received: &[u32], number: &[u32], records: &[u64])
     if keys::has_twice(&received[..received::SLOTS]) {
         return false;
     }
-    flight::home::is_sound(
+    flight::places::is_sound(
         &number[..sizes.packets_in_flight],
         records,
         16 * sizes.fragment_size,

@@ -18,7 +18,7 @@ use terms::Refusal;
 use terms::Sizes;
 
 pub mod gate;
-mod home;
+pub mod home;
 pub mod steps;
 
 // The small counters of an end.
@@ -109,7 +109,7 @@ pub fn process_incoming(
         return Processed::Refused(Refusal::BadState);
     }
     let n = sizes.packets_in_flight;
-    Processed::Done(steps::incoming_knowing(
+    Processed::Done(steps::incoming(
         state,
         received,
         &mut number[..n],

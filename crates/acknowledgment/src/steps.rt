@@ -1,37 +1,19 @@
 // What a call does once nothing is refused.
 ghost use mathlib.Core.Path.{_≡_};
-ghost use mathlib.Core.Bool.{true};
 ghost use mathlib.Core.List.{map};
 ghost use Prim.Native.Nat.{_≤_};
 ghost use lib.ListN.{length};
-ghost use Rattle.keys.specs.Home.{Home};
 ghost use Rattle.sequence_buffer.specs.Buffer.{emptied};
 ghost use Rattle.received.specs.Record.{slotCount, recorded};
 ghost use Rattle.flight.specs.Acked.{isAcked};
+ghost use Rattle.flight.specs.AtHome.{KnownHome};
 ghost use Rattle.acknowledgment.specs.State.{newerOf, heard, sentOne};
 use crate::Acknowledgment;
 use serial::PacketNumber;
 
 // A packet has come: it is recorded, and what it acknowledges leaves flight. For the crates above: requires the slots of
-// the received record, and the packets in flight, no more.
+// the received record, and the packets in flight, no more, at home where they are said to be.
 pub fn incoming(
-    state: Acknowledgment,
-    received: &mut [u32],
-    number: &mut [u32],
-    packet: PacketNumber,
-    acked: PacketNumber,
-    field: u32,
-) -> Acknowledgment
-    requires { ⌜ slotCount ≤ length (now received) ⌝ }
-    ensures { λ r. ⌜ r ≡ heard state (now (received .entry)) (packet .0) (acked .0) ⌝ }
-    ensures { λ _. ⌜ now (received .exit) ≡ recorded (state .received .0) (now (received .entry)) (packet .0) ⌝ }
-    ensures { λ _. ⌜ now (number .exit) ≡ map (emptied (isAcked (acked .0) field)) (now (number .entry)) ⌝ }
-{
-    incoming_knowing(state, received, number, packet, acked, field, false)
-}
-
-// The same, knowing whether the packets in flight are at home.
-pub fn incoming_knowing(
     state: Acknowledgment,
     received: &mut [u32],
     number: &mut [u32],
@@ -40,7 +22,7 @@ pub fn incoming_knowing(
     field: u32,
     at_home: bool,
 ) -> Acknowledgment
-    requires { ⌜ (slotCount ≤ length (now received)) × («at_home» ≡ true → (1 ≤ length (now number)) × Home (now number)) ⌝ }
+    requires { ⌜ (slotCount ≤ length (now received)) × KnownHome «at_home» (now number) ⌝ }
     ensures { λ r. ⌜ r ≡ heard state (now (received .entry)) (packet .0) (acked .0) ⌝ }
     ensures { λ _. ⌜ now (received .exit) ≡ recorded (state .received .0) (now (received .entry)) (packet .0) ⌝ }
     ensures { λ _. ⌜ now (number .exit) ≡ map (emptied (isAcked (acked .0) field)) (now (number .entry)) ⌝ }

@@ -1,11 +1,14 @@
 // 1, 2 and 13, which every call of a user tries first: one gate for all of them.
 ghost use mathlib.Core.Path.{_≡_};
-ghost use mathlib.Core.Bool.{true};
+ghost use mathlib.Core.Bool.{true, false};
 ghost use mathlib.Core.List.{[]};
 ghost use Prim.Native.Nat.{_≤_};
 ghost use lib.ListN.{length};
 ghost use Rattle.received.specs.Record.{slotCount};
 ghost use Rattle.terms.specs.Sizes.{inRange};
+ghost use Rattle.terms.specs.declared.Gate.the-variants.{Shut};
+ghost use Rattle.flight.specs.AtHome.{AtHome, KnownHome};
+ghost use Rattle.acknowledgment.specs.State.{tableOf, slotOf};
 ghost use Rattle.ends.specs.State.{lending, freshEnd};
 ghost use Rattle.ends.specs.Gate.{isLent, isSound, gateOf};
 use crate::End;
@@ -31,8 +34,53 @@ pub fn check(
 ) -> Gate
     ensures { λ r. ⌜ r ≡ gateOf sizes (lending end (now (received .entry)) (now (number .entry)) (now (records .entry)) (now (payloads .entry)) (now (slots .entry)) (now (entry .entry)) (now (header .entry)) (now (joined .entry)) (now (index .entry)) (now (lengths .entry)) (now (held .entry))) (now (output .entry)) ⌝ }
 {
+    let checked = look(
+        sizes,
+        end,
+        received,
+        number,
+        records,
+        payloads,
+        slots,
+        entry,
+        header,
+        joined,
+        index,
+        lengths,
+        held,
+        output,
+    );
+    checked.gate
+}
+
+// What the gate says, and whether each packet in flight was seen at its own place, where a `false` says nothing.
+pub struct Checked {
+    pub gate: Gate,
+    pub home: bool,
+}
+
+// The same, with what it has seen on the way: a number in flight is then found without a walk.
+pub fn look(
+    sizes: Sizes,
+    end: End,
+    received: &[u32],
+    number: &[u32],
+    records: &[u64],
+    payloads: &[u8],
+    slots: &[u32],
+    entry: &[u64],
+    header: &[u64],
+    joined: &[u8],
+    index: &[u32],
+    lengths: &[u16],
+    held: &[u8],
+    output: &[u8],
+) -> Checked
+    ensures { λ r. ⌜ r .gate ≡ gateOf sizes (lending end (now (received .entry)) (now (number .entry)) (now (records .entry)) (now (payloads .entry)) (now (slots .entry)) (now (entry .entry)) (now (header .entry)) (now (joined .entry)) (now (index .entry)) (now (lengths .entry)) (now (held .entry))) (now (output .entry)) ⌝ }
+    ensures { λ r. ⌜ KnownHome (r .home) (tableOf sizes (now (number .entry))) ⌝ }
+{
     if !sizes.in_range() {
-        return Gate::Shut(Refusal::BadSizes);
+        return shut(Refusal::BadSizes);
     }
     if !is_lent(
         sizes,
@@ -49,8 +97,9 @@ pub fn check(
         held,
         output,
     ) {
-        return Gate::Shut(Refusal::BadStorage);
+        return shut(Refusal::BadStorage);
     }
+    let home = is_home(sizes, end, number, records);
     if !is_sound(
         sizes,
         end,
@@ -61,10 +110,33 @@ pub fn check(
         entry,
         index,
         lengths,
+        home,
     ) {
-        return Gate::Shut(Refusal::BadState);
+        return shut(Refusal::BadState);
     }
-    Gate::Open
+    Checked {
+        gate: Gate::Open,
+        home,
+    }
+}
+
+fn shut(why: Refusal) -> Checked
+    ensures { λ r. ⌜ r ≡ record { gate = Shut why; home = false } ⌝ }
+{
+    Checked {
+        gate: Gate::Shut(why),
+        home: false,
+    }
+}
+
+// Each packet in flight is at its own place, by the number of the next packet. Requires sizes in range, and columns as long
+// as stated.
+fn is_home(sizes: Sizes, end: End, number: &[u32], records: &[u64]) -> bool
+    requires { ⌜ (inRange sizes ≡ true) × (sizes .«packets_in_flight» ≤ length (now number)) × (sizes .«packets_in_flight» ≤ length (now records)) ⌝ }
+    ensures { λ r. ⌜ (r ≡ true → AtHome (slotOf sizes) (tableOf sizes (now (number .entry))) (now (records .entry))) ⌝ }
+{
+    let acks = end.acks;
+    acknowledgment::home::is_home(sizes, acks.sequence_number, number, records)
 }
 
 // Nothing that is lent is shorter than stated, whatever the counters. For the crates above: requires sizes in range.
@@ -97,7 +169,8 @@ pub fn is_lent(
     !arranging::gate::too_short(f, index, lengths, held, output)
 }
 
-// No table breaks a rule of 13, which is about no bytes. Requires sizes in range, and each table to be as long as stated.
+// No table breaks a rule of 13, which is about no bytes. Requires sizes in range, each table to be as long
+// as stated, and packets at home where they are said to be.
 fn is_sound(
     sizes: Sizes,
     end: End,
@@ -108,11 +181,12 @@ fn is_sound(
     entry: &[u64],
     index: &[u32],
     lengths: &[u16],
+    home: bool,
 ) -> bool
-    requires { ⌜ (inRange sizes ≡ true) × (slotCount ≤ length (now received)) × (sizes .«packets_in_flight» ≤ length (now number)) × (sizes .«packets_in_flight» ≤ length (now records)) × (sizes .«reassembly_slots» ≤ length (now slots)) × (sizes .«reassembly_slots» ≤ length (now entry)) × (256 ≤ length (now index)) × (256 ≤ length (now lengths)) ⌝ }
+    requires { ⌜ (inRange sizes ≡ true) × (slotCount ≤ length (now received)) × (sizes .«packets_in_flight» ≤ length (now number)) × (sizes .«packets_in_flight» ≤ length (now records)) × (sizes .«reassembly_slots» ≤ length (now slots)) × (sizes .«reassembly_slots» ≤ length (now entry)) × (256 ≤ length (now index)) × (256 ≤ length (now lengths)) × (home ≡ true → AtHome (slotOf sizes) (tableOf sizes (now number)) (now records)) ⌝ }
     ensures { λ r. ⌜ r ≡ isSound sizes (lending end (now (received .entry)) (now (number .entry)) (now (records .entry)) [] (now (slots .entry)) (now (entry .entry)) [] [] (now (index .entry)) (now (lengths .entry)) []) ⌝ }
 {
-    if !acknowledgment::gate::is_sound(sizes, received, number, records) {
+    if !acknowledgment::home::is_sound(sizes, received, number, records, home) {
         return false;
     }
     let f = sizes.fragment_size;

@@ -8,8 +8,10 @@ ghost use lib.Dec.{eqb};
 ghost use lib.ListN.{length};
 ghost use Rattle.laws.specs.Bits.{bit};
 ghost use Rattle.keys.specs.Home.{Home};
+ghost use Rattle.keys.specs.Keys.{firstPlace};
 ghost use Rattle.sequence_buffer.specs.Buffer.{emptied};
 ghost use Rattle.flight.specs.Acked.{isAcked};
+ghost use Rattle.flight.specs.AtHome.{KnownHome};
 ghost use Rattle.flight.specs.Places.{placeOf};
 use serial::PacketNumber;
 
@@ -40,9 +42,32 @@ fn place_at_home(number: &[u32], packet: PacketNumber) -> usize
     crate::places::place(number, packet)
 }
 
+// `keys::find`.
+pub fn find(number: &[u32], packet: PacketNumber, home: bool) -> usize
+    requires { ⌜ KnownHome home (now number) ⌝ }
+    ensures { λ r. ⌜ r ≡ firstPlace (packet .0) (now (number .entry)) ⌝ }
+{
+    if home {
+        return find_at_home(number, packet);
+    }
+    keys::find(number, packet.0)
+}
+
+// A number is at its own place, or nowhere.
+fn find_at_home(number: &[u32], packet: PacketNumber) -> usize
+    requires { ⌜ (1 ≤ length (now number)) × Home (now number) ⌝ }
+    ensures { λ r. ⌜ r ≡ firstPlace (packet .0) (now (number .entry)) ⌝ }
+{
+    let own = (packet.0 as usize) % number.len();
+    if number[own] == packet.0 as u32 {
+        return own;
+    }
+    number.len()
+}
+
 // `acked::remove`.
 pub fn remove(number: &mut [u32], acked: PacketNumber, field: u32, home: bool)
-    requires { ⌜ (home ≡ true → (1 ≤ length (now number)) × Home (now number)) ⌝ }
+    requires { ⌜ KnownHome home (now number) ⌝ }
     ensures { λ _. ⌜ now (number .exit) ≡ map (emptied (isAcked (acked .0) field)) (now (number .entry)) ⌝ }
 {
     if home {

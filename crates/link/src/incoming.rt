@@ -29,7 +29,7 @@ pub fn receive(
     ensures { λ r. ⌜ Receives (receiveOf sizes (lending end (now (received .entry)) (now (number .entry)) (now (records .entry)) (now (payloads .entry)) (now (slots .entry)) (now (entry .entry)) (now (header .entry)) (now (joined .entry)) (now (index .entry)) (now (lengths .entry)) (now (held .entry))) (now (datagram .entry)) (now (output .entry)))
         r (now (received .exit)) (now (number .exit)) (now (records .entry)) (now (payloads .entry)) (now (slots .exit)) (now (entry .exit)) (now (header .exit)) (now (joined .exit)) (now (index .exit)) (now (lengths .exit)) (now (held .exit)) (now (output .exit)) ⌝ }
 {
-    let gate = gate::check(
+    let checked = gate::look(
         sizes,
         end,
         received,
@@ -45,6 +45,7 @@ pub fn receive(
         held,
         output,
     );
+    let gate = checked.gate;
     if let Gate::Shut(why) = gate {
         return receiving::refused(end, why);
     }
@@ -64,5 +65,6 @@ pub fn receive(
         held,
         datagram,
         output,
+        checked.home,
     )
 }

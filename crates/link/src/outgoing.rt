@@ -44,7 +44,7 @@ pub fn send(
     ensures { λ r. ⌜ Sends (sendOf sizes (lending end (now (received .entry)) (now (number .entry)) (now (records .entry)) (now (payloads .entry)) (now (slots .entry)) (now (entry .entry)) (now (header .entry)) (now (joined .entry)) (now (index .entry)) (now (lengths .entry)) (now (held .entry))) delivery ordering stream (now (payload .entry)) (now (output .entry)))
         r (now (received .entry)) (now (number .exit)) (now (records .exit)) (now (payloads .exit)) (now (slots .entry)) (now (entry .entry)) (now (header .entry)) (now (joined .entry)) (now (index .entry)) (now (lengths .entry)) (now (held .entry)) (now (output .exit)) ⌝ }
 {
-    let gate = gate::check(
+    let checked = gate::look(
         sizes,
         end,
         received,
@@ -60,6 +60,7 @@ pub fn send(
         held,
         output,
     );
+    let gate = checked.gate;
     if let Gate::Shut(why) = gate {
         return refused(end, why);
     }
@@ -80,6 +81,7 @@ pub fn send(
         item_next(delivery, ordering, stream),
         payload,
         output,
+        checked.home,
     )
 }
 
@@ -105,7 +107,7 @@ pub fn resend(
     ensures { λ r. ⌜ Sends (resendOf sizes (lending end (now (received .entry)) (now (number .entry)) (now (records .entry)) (now (payloads .entry)) (now (slots .entry)) (now (entry .entry)) (now (header .entry)) (now (joined .entry)) (now (index .entry)) (now (lengths .entry)) (now (held .entry))) sent (now (payload .entry)) (now (output .entry)))
         r (now (received .entry)) (now (number .exit)) (now (records .exit)) (now (payloads .exit)) (now (slots .entry)) (now (entry .entry)) (now (header .entry)) (now (joined .entry)) (now (index .entry)) (now (lengths .entry)) (now (held .entry)) (now (output .exit)) ⌝ }
 {
-    let gate = gate::check(
+    let checked = gate::look(
         sizes,
         end,
         received,
@@ -121,6 +123,7 @@ pub fn resend(
         held,
         output,
     );
+    let gate = checked.gate;
     if let Gate::Shut(why) = gate {
         return refused(end, why);
     }
@@ -144,6 +147,7 @@ pub fn resend(
         item_again(sent),
         payload,
         output,
+        checked.home,
     )
 }
 
@@ -201,7 +205,7 @@ pub fn fragment(
     ensures { λ r. ⌜ r ≡ fragmentOf sizes (lending end (now (received .entry)) (now (number .entry)) (now (records .entry)) (now (payloads .entry)) (now (slots .entry)) (now (entry .entry)) (now (header .entry)) (now (joined .entry)) (now (index .entry)) (now (lengths .entry)) (now (held .entry))) (packet .0) j (now (output .entry)) ⌝ }
     ensures { λ _. ⌜ now (output .exit) ≡ fragmentOutput sizes (lending end (now (received .entry)) (now (number .entry)) (now (records .entry)) (now (payloads .entry)) (now (slots .entry)) (now (entry .entry)) (now (header .entry)) (now (joined .entry)) (now (index .entry)) (now (lengths .entry)) (now (held .entry))) (packet .0) j (now (output .entry)) ⌝ }
 {
-    let gate = gate::check(
+    let checked = gate::look(
         sizes,
         end,
         received,
@@ -217,6 +221,7 @@ pub fn fragment(
         held,
         output,
     );
+    let gate = checked.gate;
     if let Gate::Shut(why) = gate {
         return Further::Refused(why);
     }
@@ -237,5 +242,6 @@ pub fn fragment(
         packet,
         j,
         output,
+        checked.home,
     )
 }

@@ -3,6 +3,8 @@ ghost use mathlib.Core.Path.{_≡_};
 ghost use Prim.Native.Nat.{_≤_};
 ghost use lib.ListN.{length};
 ghost use Rattle.received.specs.Record.{slotCount};
+ghost use Rattle.flight.specs.AtHome.{KnownHome};
+ghost use Rattle.acknowledgment.specs.State.{tableOf};
 ghost use Rattle.receiving.specs.Packets.{Hearing};
 ghost use Rattle.receiving.specs.Fragments.{partOf, acksAtWhole, toldPart, FragmentReady, Joins};
 use crate::Answer;
@@ -17,7 +19,7 @@ use reassembly::plan::Fragment;
 use reassembly::words::AckHeader;
 use terms::Sizes;
 
-// Requires an end that the gate lets through, and a payload to F.
+// Requires an end that the gate lets through, with packets in flight at home where they are said to be, and a payload to F.
 pub fn join(
     sizes: Sizes,
     end: End,
@@ -30,8 +32,9 @@ pub fn join(
     headers: Headers,
     payload: &[u8],
     output: &mut [u8],
+    home: bool,
 ) -> Received
-    requires { ⌜ FragmentReady sizes end (now received) (now number) (now slots) (now entry) (now header) (now joined) (now payload) (now output) ⌝ }
+    requires { ⌜ FragmentReady sizes end (now received) (now number) (now slots) (now entry) (now header) (now joined) (now payload) (now output) × KnownHome home (tableOf sizes (now number)) ⌝ }
     ensures { λ r. ⌜ Joins sizes headers (now (payload .entry)) end (now (received .entry)) (now (number .entry)) (now (slots .entry)) (now (entry .entry)) (now (header .entry)) (now (joined .entry)) (now (output .entry)) r (now (received .exit)) (now (number .exit)) (now (slots .exit)) (now (entry .exit)) (now (header .exit)) (now (joined .exit)) (now (output .exit)) ⌝ }
 {
     let f = sizes.fragment_size;
@@ -57,7 +60,7 @@ pub fn join(
     let sequencing = end.sequencing;
     Received {
         end: End {
-            acks: hear_whole(answer, sizes, end.acks, received, number),
+            acks: hear_whole(answer, sizes, end.acks, received, number, home),
             reassembly,
             ordering,
             sequencing,
@@ -93,8 +96,9 @@ fn hear_whole(
     acks: Acknowledgment,
     received: &mut [u32],
     number: &mut [u32],
+    home: bool,
 ) -> Acknowledgment
-    requires { ⌜ (slotCount ≤ length (now received)) × (sizes .«packets_in_flight» ≤ length (now number)) ⌝ }
+    requires { ⌜ (slotCount ≤ length (now received)) × (sizes .«packets_in_flight» ≤ length (now number)) × KnownHome home (tableOf sizes (now number)) ⌝ }
     ensures { λ r. ⌜ Hearing (acksAtWhole answer sizes acks (now (received .entry)) (now (number .entry))) r (now (received .exit)) (now (number .exit)) ⌝ }
 {
     match answer {
@@ -108,6 +112,7 @@ fn hear_whole(
                 header.number,
                 header.acked,
                 header.field,
+                home,
             )
         }
         reassembly::effects::Answer::Refused(_) => acks,

@@ -3,6 +3,8 @@
 // which is `arranging`, and the users' call with its gate, which is `link`.
 ghost use mathlib.Core.Path.{_≡_};
 ghost use Rattle.terms.specs.declared.Gate.the-variants.{Open};
+ghost use Rattle.flight.specs.AtHome.{KnownHome};
+ghost use Rattle.acknowledgment.specs.State.{tableOf};
 ghost use Rattle.ends.specs.State.{lending};
 ghost use Rattle.ends.specs.Gate.{gateOf};
 ghost use Rattle.receiving.specs.declared.Answer.the-variants.{Refused};
@@ -47,7 +49,8 @@ pub struct Received {
     pub answer: Answer,
 }
 
-// A datagram has come. For the crates above: requires an end that the gate lets through.
+// A datagram has come. For the crates above: requires an end that the gate lets through, with packets in
+// flight at home where they are said to be.
 pub fn receive(
     sizes: Sizes,
     end: End,
@@ -64,8 +67,9 @@ pub fn receive(
     held: &mut [u8],
     datagram: &[u8],
     output: &mut [u8],
+    home: bool,
 ) -> Received
-    requires { ⌜ gateOf sizes (lending end (now received) (now number) (now records) (now payloads) (now slots) (now entry) (now header) (now joined) (now index) (now lengths) (now held)) (now output) ≡ Open ⌝ }
+    requires { ⌜ (gateOf sizes (lending end (now received) (now number) (now records) (now payloads) (now slots) (now entry) (now header) (now joined) (now index) (now lengths) (now held)) (now output) ≡ Open) × KnownHome home (tableOf sizes (now number)) ⌝ }
     ensures { λ r. ⌜ Receives (receivedOf sizes (lending end (now (received .entry)) (now (number .entry)) (now (records .entry)) (now (payloads .entry)) (now (slots .entry)) (now (entry .entry)) (now (header .entry)) (now (joined .entry)) (now (index .entry)) (now (lengths .entry)) (now (held .entry))) (now (datagram .entry)) (now (output .entry)))
         r (now (received .exit)) (now (number .exit)) (now (records .entry)) (now (payloads .entry)) (now (slots .exit)) (now (entry .exit)) (now (header .exit)) (now (joined .exit)) (now (index .exit)) (now (lengths .exit)) (now (held .exit)) (now (output .exit)) ⌝ }
 {
@@ -91,6 +95,7 @@ pub fn receive(
             headers,
             payload,
             output,
+            home,
         ),
         PacketType::Fragment => fragments::join(
             sizes,
@@ -104,6 +109,7 @@ pub fn receive(
             headers,
             payload,
             output,
+            home,
         ),
         PacketType::Heartbeat => Received {
             end,

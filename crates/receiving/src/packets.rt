@@ -4,6 +4,8 @@ ghost use mathlib.Core.Bool.{false};
 ghost use Prim.Native.Nat.{_≤_};
 ghost use lib.ListN.{length};
 ghost use Rattle.received.specs.Record.{slotCount};
+ghost use Rattle.flight.specs.AtHome.{KnownHome};
+ghost use Rattle.acknowledgment.specs.State.{tableOf};
 ghost use Rattle.arranging.specs.Ordered.{lendingAll, RoomForAll, LeavesAll};
 ghost use Rattle.receiving.specs.Plan.{planOf, refuses, itemOf};
 ghost use Rattle.receiving.specs.Packets.{PacketReady, Hearing, acksBy, sequencedBy, orderedBy, handed, SequencedReady, OrderedReady, Accepts, Performs};
@@ -22,7 +24,7 @@ use packet::DeliveryGuarantee;
 use packet::Headers;
 use terms::Sizes;
 
-// Requires an end that the gate lets through, and a payload to F.
+// Requires an end that the gate lets through, with packets in flight at home where they are said to be, and a payload to F.
 pub fn accept(
     sizes: Sizes,
     end: End,
@@ -34,8 +36,9 @@ pub fn accept(
     headers: Headers,
     payload: &[u8],
     output: &mut [u8],
+    home: bool,
 ) -> Received
-    requires { ⌜ PacketReady sizes end (now received) (now number) (now index) (now lengths) (now held) (now payload) (now output) ⌝ }
+    requires { ⌜ PacketReady sizes end (now received) (now number) (now index) (now lengths) (now held) (now payload) (now output) × KnownHome home (tableOf sizes (now number)) ⌝ }
     ensures { λ r. ⌜ Accepts sizes headers (now (payload .entry)) end (now (received .entry)) (now (number .entry)) (now (index .entry)) (now (lengths .entry)) (now (held .entry)) (now (output .entry)) r (now (received .exit)) (now (number .exit)) (now (index .exit)) (now (lengths .exit)) (now (held .exit)) (now (output .exit)) ⌝ }
 {
     let plan = plan::judge(end.ordering, end.sequencing, index, headers);
@@ -54,6 +57,7 @@ pub fn accept(
         plan,
         payload,
         output,
+        home,
     )
 }
 
@@ -70,14 +74,23 @@ fn perform(
     plan: Plan,
     payload: &[u8],
     output: &mut [u8],
+    home: bool,
 ) -> Received
-    requires { ⌜ PacketReady sizes end (now received) (now number) (now index) (now lengths) (now held) (now payload) (now output) × (plan ≡ planOf headers (end .ordering) (now index) (end .sequencing)) × (refuses plan ≡ false) ⌝ }
+    requires { ⌜ PacketReady sizes end (now received) (now number) (now index) (now lengths) (now held) (now payload) (now output) × (plan ≡ planOf headers (end .ordering) (now index) (end .sequencing)) × (refuses plan ≡ false) × KnownHome home (tableOf sizes (now number)) ⌝ }
     ensures { λ r. ⌜ Performs plan sizes headers (now (payload .entry)) end (now (received .entry)) (now (number .entry)) (now (index .entry)) (now (lengths .entry)) (now (held .entry)) (now (output .entry)) r (now (received .exit)) (now (number .exit)) (now (index .exit)) (now (lengths .exit)) (now (held .exit)) (now (output .exit)) ⌝ }
 {
     let standard = headers.standard;
     let delivery = standard.delivery;
     let reassembly = end.reassembly;
-    let acks = hear(delivery, sizes, end.acks, received, number, headers.acked);
+    let acks = hear(
+        delivery,
+        sizes,
+        end.acks,
+        received,
+        number,
+        headers.acked,
+        home,
+    );
     let sequencing = sequence(plan, end.sequencing, headers.arranging);
     let ordering = arrange(
         plan,
@@ -124,8 +137,9 @@ fn hear(
     received: &mut [u32],
     number: &mut [u32],
     acked: AckedPacketHeader,
+    home: bool,
 ) -> Acknowledgment
-    requires { ⌜ (slotCount ≤ length (now received)) × (sizes .«packets_in_flight» ≤ length (now number)) ⌝ }
+    requires { ⌜ (slotCount ≤ length (now received)) × (sizes .«packets_in_flight» ≤ length (now number)) × KnownHome home (tableOf sizes (now number)) ⌝ }
     ensures { λ r. ⌜ Hearing (acksBy delivery sizes acked acks (now (received .entry)) (now (number .entry))) r (now (received .exit)) (now (number .exit)) ⌝ }
 {
     match delivery {
@@ -137,6 +151,7 @@ fn hear(
             acked.number,
             acked.acked,
             acked.field,
+            home,
         ),
     }
 }

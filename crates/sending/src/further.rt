@@ -3,6 +3,8 @@ ghost use mathlib.Core.Path.{_≡_};
 ghost use Prim.Native.Nat.{_≤_, _<_};
 ghost use lib.ListN.{length};
 ghost use Rattle.terms.specs.declared.Gate.the-variants.{Open};
+ghost use Rattle.flight.specs.AtHome.{KnownHome};
+ghost use Rattle.acknowledgment.specs.State.{tableOf};
 ghost use Rattle.ends.specs.State.{lending};
 ghost use Rattle.ends.specs.Gate.{gateOf};
 ghost use Rattle.received.specs.Record.{slotCount};
@@ -29,7 +31,8 @@ pub enum Further {
     Refused(Refusal),
 }
 
-// Fragment j of a packet in flight whose payload is over F. For the crates above: requires an end that the gate lets through.
+// Fragment j of a packet in flight whose payload is over F. For the crates above: requires an end that the gate lets through,
+// with packets in flight at home where they are said to be.
 pub fn fragment(
     sizes: Sizes,
     end: End,
@@ -47,14 +50,15 @@ pub fn fragment(
     packet: PacketNumber,
     j: usize,
     output: &mut [u8],
+    home: bool,
 ) -> Further
-    requires { ⌜ gateOf sizes (lending end (now received) (now number) (now records) (now payloads) (now slots) (now entry) (now header) (now joined) (now index) (now lengths) (now held)) (now output) ≡ Open ⌝ }
+    requires { ⌜ (gateOf sizes (lending end (now received) (now number) (now records) (now payloads) (now slots) (now entry) (now header) (now joined) (now index) (now lengths) (now held)) (now output) ≡ Open) × KnownHome home (tableOf sizes (now number)) ⌝ }
     ensures { λ r. ⌜ r ≡ furtherOf sizes (end .acks) (now (received .entry)) (now (number .entry)) (now (records .entry)) (now (payloads .entry)) (packet .0) j ⌝ }
     ensures { λ _. ⌜ now (output .exit) ≡ furtherOutput sizes (end .acks) (now (received .entry)) (now (number .entry)) (now (records .entry)) (now (payloads .entry)) (packet .0) j (now (output .entry)) ⌝ }
 {
     let f = sizes.fragment_size;
     let n = sizes.packets_in_flight;
-    let at = keys::find(&number[..n], packet.0);
+    let at = flight::direct::find(&number[..n], packet, home);
     if at == n {
         return Further::Nothing;
     }

@@ -4,6 +4,7 @@ ghost use mathlib.Core.Bool.{true};
 ghost use Prim.Native.Nat.{_≤_};
 ghost use lib.ListN.{length};
 ghost use Rattle.terms.specs.Sizes.{inRange};
+ghost use Rattle.flight.specs.AtHome.{KnownHome};
 ghost use Rattle.sending.specs.Plan.{isListed, isSplit, isLong, streamPlace, flightPlace, planOf};
 use crate::Item;
 use acknowledgment::Acknowledgment;
@@ -29,7 +30,7 @@ pub enum Plan {
     Send(Sending),
 }
 
-// 4, 5, 8, 7, 6. Requires sizes in range, N places in flight and sound streams.
+// 4, 5, 8, 7, 6. Requires sizes in range, N places in flight, at home where they are said to be, and sound streams.
 pub fn judge(
     sizes: Sizes,
     acks: Acknowledgment,
@@ -38,8 +39,9 @@ pub fn judge(
     number: &[u32],
     item: Item,
     size: usize,
+    home: bool,
 ) -> Plan
-    requires { ⌜ (inRange sizes ≡ true) × (length (now number) ≡ sizes .«packets_in_flight») × (ordered .known .made ≤ 4) × (sequenced .known .made ≤ 4) ⌝ }
+    requires { ⌜ (inRange sizes ≡ true) × (length (now number) ≡ sizes .«packets_in_flight») × (ordered .known .made ≤ 4) × (sequenced .known .made ≤ 4) × KnownHome home (now number) ⌝ }
     ensures { λ r. ⌜ r ≡ planOf sizes (acks .«sequence_number» .0) ordered sequenced (now (number .entry)) item size ⌝ }
 {
     if !is_listed(item) {
@@ -57,7 +59,7 @@ pub fn judge(
         return Plan::Refuse(Refusal::NoStream);
     }
     let delivery = item.delivery;
-    let at = flight_place(delivery, number, acks.sequence_number);
+    let at = flight_place(delivery, number, acks.sequence_number, home);
     if at == number.len() {
         return Plan::Refuse(Refusal::Full);
     }
@@ -127,12 +129,17 @@ fn stream_place(item: Item, ordered: OrderingStreams, sequenced: SequencingStrea
 }
 
 // Where a reliable packet goes in flight, the number of places where there is no room.
-fn flight_place(delivery: DeliveryGuarantee, number: &[u32], packet: PacketNumber) -> usize
-    requires { ⌜ 1 ≤ length (now number) ⌝ }
+fn flight_place(
+    delivery: DeliveryGuarantee,
+    number: &[u32],
+    packet: PacketNumber,
+    home: bool,
+) -> usize
+    requires { ⌜ (1 ≤ length (now number)) × KnownHome home (now number) ⌝ }
     ensures { λ r. ⌜ r ≡ flightPlace delivery (packet .0) (now (number .entry)) ⌝ }
 {
     match delivery {
         DeliveryGuarantee::Unreliable => 0,
-        DeliveryGuarantee::Reliable => flight::places::place(number, packet),
+        DeliveryGuarantee::Reliable => flight::direct::place(number, packet, home),
     }
 }

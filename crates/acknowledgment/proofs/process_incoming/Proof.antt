@@ -83,14 +83,14 @@ returns-3 c =
     let bad : isSound (c .before .before .before .before .before .before .before .before .before .before .before .before .before .before .before .before .before .args .sizes) (end (c .before .before .before .before .before .before .before .before .before .before .before .before .before .before .before .before .before)) ≡ false = sym (c .before .is-sound .ensures) ∙ off (c .before .is-sound .result) (c .if3 .taken) in
     not-heard (c .before .before .before .before .before .before .before .before .before .before .before .before .before .before .before .before .before .args .sizes) (end (c .before .before .before .before .before .before .before .before .before .before .before .before .before .before .before .before .before)) _ _ _ BadState (rw (in-range (c .before .before .before .before .before .before .before .before .before .before .before), long (c .before .before .before .before .before .before .before), bad))
 
-slice-relend-prefix-incoming-knowing : tie.Need-slice-relend-prefix-incoming-knowing
-slice-relend-prefix-incoming-knowing c = lengths (c .before .before .before .before .before .before .before .before) .numbers
+slice-relend-prefix-incoming : tie.Need-slice-relend-prefix-incoming
+slice-relend-prefix-incoming c = lengths (c .before .before .before .before .before .before .before .before) .numbers
 
-slice-aggregate-incoming-knowing : tie.Need-slice-aggregate-incoming-knowing
-slice-aggregate-incoming-knowing c = omega (arith, whole (c .before .before .before .before .before .before .before .before .before))
+slice-aggregate-incoming : tie.Need-slice-aggregate-incoming
+slice-aggregate-incoming c = omega (arith, whole (c .before .before .before .before .before .before .before .before .before))
 
-incoming-knowing-requires : tie.Need-incoming-knowing-requires
-incoming-knowing-requires c κs = (lengths (c .before .before .before .before .before .before .before .before .before) .slots, λ e. (omega (arith, whole (c .before .before .before .before .before .before .before .before .before), in-range-means _ (in-range (c .before .before .before .before .before .before .before .before .before .before .before .before .before)) .n), c .before .before .before .before .before .before .is-home .ensures e .home))
+incoming-requires : tie.Need-incoming-requires
+incoming-requires c κs = (lengths (c .before .before .before .before .before .before .before .before .before) .slots, λ e. (omega (arith, whole (c .before .before .before .before .before .before .before .before .before), in-range-means _ (in-range (c .before .before .before .before .before .before .before .before .before .before .before .before .before)) .n), c .before .before .before .before .before .before .is-home .ensures e .home))
 
 same-length-5 : tie.Need-same-length-5
 same-length-5 c = search needs
@@ -101,7 +101,7 @@ same-length-6 c = search needs
 returns-4 : tie.Need-returns-4
 unfolding incomingOf
 returns-4 c =
-    let done = c .before .before .before .before .incoming-knowing .ensures in
+    let done = c .before .before .before .before .incoming .ensures in
     let n = c .before .before .before .before .before .before .before .before .before .before .before .before .before .before .before .before .before .before .before .before .before .before .before .before .args .sizes .«packets_in_flight» in
     record {
       answer-is = rw (in-range (c .before .before .before .before .before .before .before .before .before .before .before .before .before .before .before .before .before .before), long (c .before .before .before .before .before .before .before .before .before .before .before .before .before .before), sound (c .before .before .before .before .before .before .before), done .0);
@@ -124,9 +124,9 @@ process-incoming-spec =
     same-length-3
     same-length-4
     returns-3
-    slice-relend-prefix-incoming-knowing
-    slice-aggregate-incoming-knowing
-    incoming-knowing-requires
+    slice-relend-prefix-incoming
+    slice-aggregate-incoming
+    incoming-requires
     same-length-5
     same-length-6
     returns-4)

@@ -22,7 +22,7 @@ abbrev whole : tie.Start → State
 whole s = lending (s .args .end) (now (s .args .received)) (now (s .args .number)) (now (s .args .records)) (now (s .args .payloads)) (now (s .args .slots)) (now (s .args .entry)) (now (s .args .header)) (now (s .args .joined)) (now (s .args .index)) (now (s .args .lengths)) (now (s .args .held))
 
 room : (s : tie.Start) → Opened (s .args .sizes) (whole s) (now (s .args .output))
-room s = opened (s .args .sizes) (whole s) (now (s .args .output)) (s .pre)
+room s = opened (s .args .sizes) (whole s) (now (s .args .output)) (s .pre .0)
 
 found : (c : tie.After-read) → readOf (c .before .before .before .before .before .before .before .before .before .before .before .before .before .before .before .before .args .sizes .version) (now (c .before .before .before .before .before .before .before .before .before .before .before .before .before .before .before .before .args .datagram)) ≡ Found (c .read .given .0 .0) (c .read .given .0 .1 .0)
 found c = sym (c .before .before .read-headers .ensures) ∙ c .read .given .1
@@ -85,15 +85,17 @@ accept-requires : tie.Need-accept-requires
 accept-requires c κs =
     let s = c .before .before .before .before .before .before .before .before .before .before .before .before .before .before .before .before .before .before .before .before .before .before .before .before .before .before .before .before .before in
     let g = c .before .before .before .before .before .before .before .before .before .before .before .before .before in
-    let o = room s in
-    record {
-      slots = o .received-room;
-      flying = o .number-room;
-      streams = o .ordered;
-      four = o .four;
-      short = rw (rest (now (s .args .datagram)) (g .read .given .0 .1 .0), length-drop (g .read .given .0 .1 .0) (now (s .args .datagram))) (c .before .before .before .before .before .before .before .before .before .before .if1 .left);
-      room = omega (arith, o .output-room);
-    }
+    let o = room s in (
+      record {
+        slots = o .received-room;
+        flying = o .number-room;
+        streams = o .ordered;
+        four = o .four;
+        short = rw (rest (now (s .args .datagram)) (g .read .given .0 .1 .0), length-drop (g .read .given .0 .1 .0) (now (s .args .datagram))) (c .before .before .before .before .before .before .before .before .before .before .if1 .left);
+        room = omega (arith, o .output-room);
+      },
+      s .pre .1,
+    )
 
 enum-told-3 : tie.Need-enum-told-3
 enum-told-3 c = search needs
@@ -102,14 +104,16 @@ join-requires : tie.Need-join-requires
 join-requires c κs =
     let s = c .before .before .before .before .before .before .before .before .before .before .before .before .before .before .before .before .before .before .before .before .before .before .before .before .before .before .before .before .before .before in
     let g = c .before .before .before .before .before .before .before .before .before .before .before .before .before .before in
-    let o = room s in
-    record {
-      record-slots = o .received-room;
-      flying = o .number-room;
-      table-slots = o .slots-room;
-      table = o .parts;
-      short = rw (rest (now (s .args .datagram)) (g .read .given .0 .1 .0), length-drop (g .read .given .0 .1 .0) (now (s .args .datagram))) (c .before .before .before .before .before .before .before .before .before .before .before .if1 .left);
-    }
+    let o = room s in (
+      record {
+        record-slots = o .received-room;
+        flying = o .number-room;
+        table-slots = o .slots-room;
+        table = o .parts;
+        short = rw (rest (now (s .args .datagram)) (g .read .given .0 .1 .0), length-drop (g .read .given .0 .1 .0) (now (s .args .datagram))) (c .before .before .before .before .before .before .before .before .before .before .before .if1 .left);
+      },
+      s .pre .1,
+    )
 
 enum-told-4 : tie.Need-enum-told-4
 enum-told-4 c = search needs

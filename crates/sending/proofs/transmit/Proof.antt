@@ -18,7 +18,7 @@ abbrev state : tie.Start → State
 state c = lending (c .args .end) (now (c .args .received)) (now (c .args .number)) (now (c .args .records)) (now (c .args .payloads)) (now (c .args .slots)) (now (c .args .entry)) (now (c .args .header)) (now (c .args .joined)) (now (c .args .index)) (now (c .args .lengths)) (now (c .args .held))
 
 gate : (c : tie.Start) → Opened (c .args .sizes) (state c) (now (c .args .output))
-gate c = opened (c .args .sizes) (state c) (now (c .args .output)) (c .pre)
+gate c = opened (c .args .sizes) (state c) (now (c .args .output)) (c .pre .0)
 
 table : (c : tie.Start) → length (tableOf (c .args .sizes) (now (c .args .number))) ≡ c .args .sizes .«packets_in_flight»
 table c = whole (c .args .sizes) (state c) (now (c .args .output)) (gate c)
@@ -39,7 +39,10 @@ slice-aggregate-judge : tie.Need-slice-aggregate-judge
 slice-aggregate-judge c = sym (table (c .before .before .before .before .before .before .before .before .before .before .before .before .before .before))
 
 judge-requires : tie.Need-judge-requires
-judge-requires c κs = (gate (c .before .before .before .before .before .before .before .before .before .before .before .before .before .before) .ranged, table (c .before .before .before .before .before .before .before .before .before .before .before .before .before .before), gate (c .before .before .before .before .before .before .before .before .before .before .before .before .before .before) .ordered .four, gate (c .before .before .before .before .before .before .before .before .before .before .before .before .before .before) .four)
+judge-requires c κs =
+    let s = c .before .before .before .before .before .before .before .before .before .before .before .before .before .before in
+    let g = gate s in
+    (g .ranged, table s, g .ordered .four, g .four, s .pre .1)
 
 enum-known-plan : tie.Need-enum-known-plan
 enum-known-plan c = search needs

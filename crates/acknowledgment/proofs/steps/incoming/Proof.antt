@@ -1,12 +1,17 @@
--- Nothing is known of the table.
+-- Each callee says its part.
 use borrow.Author.Needs.{needs}
 use Rattle.acknowledgment.proofs.steps.incoming.Statement.{statement}
 use Rattle.acknowledgment.proofs.steps.incoming.Tie as tie
-use mathlib.Core.Path.{refl}
-use Rattle.laws.proofs.Cases.{both}
+use Rattle.sequence_buffer.specs.Buffer.{inserted}
 
-incoming-knowing-requires : tie.Need-incoming-knowing-requires
-incoming-knowing-requires c κs = (c .before .before .before .before .pre, λ e. both e refl)
+receive-requires : tie.Need-receive-requires
+receive-requires c κs = search needs
+
+remove-requires : tie.Need-remove-requires
+remove-requires c κs = search needs
+
+newer-requires : tie.Need-newer-requires
+newer-requires c κs = search needs
 
 same-length : tie.Need-same-length
 same-length c = search needs
@@ -15,7 +20,14 @@ same-length-2 : tie.Need-same-length-2
 same-length-2 c = search needs
 
 returns : tie.Need-returns
-returns c = search needs
+unfolding inserted
+returns c =
+    let s = c .before .before .before .before .before .before .before .before .before .before .before .before .before .before .args .state in
+    let moved = c .newer .ensures in
+    let recorded = c .before .before .before .before .before .before .before .before .receive .ensures .0 in
+    (λ i. record { «sequence_number» = s .«sequence_number»; «remote_ack_sequence_num» = moved i; received = recorded i .«sequence_num» }, (c .before .before .before .before .before .before .before .before .receive .ensures .1, c .before .before .before .remove .ensures))
 
 pub incoming-spec : {M : Type 1} → statement M
-incoming-spec = tie.close (tie.spec incoming-knowing-requires same-length same-length-2 returns)
+incoming-spec =
+    tie.close
+    (tie.spec receive-requires remove-requires newer-requires same-length same-length-2 returns)

@@ -16,10 +16,10 @@ abbrev whole : tie.Start → State
 whole c = lending (c .args .end) (now (c .args .received)) (now (c .args .number)) (now (c .args .records)) (now (c .args .payloads)) (now (c .args .slots)) (now (c .args .entry)) (now (c .args .header)) (now (c .args .joined)) (now (c .args .index)) (now (c .args .lengths)) (now (c .args .held))
 
 is-open : (c : tie.After-enum-told) → gateOf (c .before .before .before .before .before .before .before .before .before .before .before .before .before .before .before .before .before .before .before .before .args .sizes) (whole (c .before .before .before .before .before .before .before .before .before .before .before .before .before .before .before .before .before .before .before .before)) (now (c .before .before .before .before .before .before .before .before .before .before .before .before .before .before .before .before .before .before .before .before .args .output)) ≡ Open
-is-open c = sym (c .before .before .check .ensures) ∙ c .enum-told .given .1
+is-open c = sym (c .before .before .look .ensures .0) ∙ c .enum-told .given .1
 
-check-requires : tie.Need-check-requires
-check-requires c κs = search needs
+look-requires : tie.Need-look-requires
+look-requires c κs = search needs
 
 enum-known-gate : tie.Need-enum-known-gate
 enum-known-gate c = search needs
@@ -43,8 +43,8 @@ returns : tie.Need-returns
 returns c =
     let s = c .before .before .before .before .before .before .before .before .before .before .before .before .before .before .before .before .before .before .before .before .before .before in
     let why = c .before .before .gate .given .0 .0 in
-    let e : c .before .before .before .before .check .result ≡ Shut why = c .before .before .gate .given .1 in
-    let g = sym (c .before .before .before .before .check .ensures) ∙ e in
+    let e : c .before .before .before .before .look .result .gate ≡ Shut why = c .before .before .gate .given .1 in
+    let g = sym (c .before .before .before .before .look .ensures .0) ∙ e in
     rw (c .refused .ensures) (not-sent (sendOf (s .args .sizes) (whole s) (s .args .delivery) (s .args .ordering) (s .args .stream) (now (s .args .payload)) (now (s .args .output))) why (whole s) (now (s .args .output)) (send-shut (s .args .sizes) (whole s) (now (s .args .output)) why (s .args .delivery) (s .args .ordering) (s .args .stream) (now (s .args .payload)) g))
 
 enum-told : tie.Need-enum-told
@@ -54,7 +54,7 @@ item-next-requires : tie.Need-item-next-requires
 item-next-requires c κs = search needs
 
 transmit-requires : tie.Need-transmit-requires
-transmit-requires c κs = is-open (c .before .before .before .before .before)
+transmit-requires c κs = (is-open (c .before .before .before .before .before), c .before .before .before .before .before .before .before .look .ensures .1)
 
 same-length-5 : tie.Need-same-length-5
 same-length-5 c = search needs
@@ -78,7 +78,7 @@ pub send-spec : {M : Type 1} → statement M
 send-spec =
     tie.close
     (tie.spec
-    check-requires
+    look-requires
     enum-known-gate
     refused-requires
     same-length

@@ -18,7 +18,7 @@ abbrev table : tie.Start → State
 table s = lending (s .args .end .reassembly .0) (now (s .args .slots)) (now (s .args .entry)) (now (s .args .header)) (now (s .args .joined))
 
 slots-of : (s : tie.Start) → s .args .sizes .«reassembly_slots» ≡ length (stated (s .args .sizes .«reassembly_slots») (table s) .slots)
-slots-of s = sym (length-take-le (s .args .sizes .«reassembly_slots») (now (s .args .slots)) (s .pre .table-slots))
+slots-of s = sym (length-take-le (s .args .sizes .«reassembly_slots») (now (s .args .slots)) (s .pre .0 .table-slots))
 
 fragment-requires : tie.Need-fragment-requires
 fragment-requires c κs = search needs
@@ -30,7 +30,7 @@ slice-aggregate-judge : tie.Need-slice-aggregate-judge
 slice-aggregate-judge c = slots-of (c .before .before .before .before .before .before .before .before .before .before .before)
 
 judge-requires : tie.Need-judge-requires
-judge-requires c κs = (c .before .before .before .before .before .before .before .before .before .before .before .before .pre .table .table, c .before .before .before .before .before .before .before .before .before .before .before .before .pre .short)
+judge-requires c κs = (c .before .before .before .before .before .before .before .before .before .before .before .before .pre .0 .table .table, c .before .before .before .before .before .before .before .before .before .before .before .before .pre .0 .short)
 
 slice-relend-prefix-perform : tie.Need-slice-relend-prefix-perform
 slice-relend-prefix-perform c = search needs
@@ -39,10 +39,12 @@ slice-aggregate-perform : tie.Need-slice-aggregate-perform
 slice-aggregate-perform c = slots-of (c .before .before .before .before .before .before .before .before .before .before .before .before .before .before)
 
 perform-requires : tie.Need-perform-requires
-perform-requires c κs = (c .before .before .before .before .before .before .before .before .before .before .before .before .before .before .before .before .before .before .pre .table, c .before .before .before .before .before .before .before .before .before .before .before .before .before .before .before .before .before .before .pre .short, c .before .before .before .before .before .judge .ensures)
+perform-requires c κs = (c .before .before .before .before .before .before .before .before .before .before .before .before .before .before .before .before .before .before .pre .0 .table, c .before .before .before .before .before .before .before .before .before .before .before .before .before .before .before .before .before .before .pre .0 .short, c .before .before .before .before .before .judge .ensures)
 
 hear-whole-requires : tie.Need-hear-whole-requires
-hear-whole-requires c κs = (c .before .before .before .before .before .before .before .before .before .before .before .before .before .before .before .before .before .before .before .before .before .before .before .before .before .before .before .before .before .before .before .before .before .before .pre .record-slots, c .before .before .before .before .before .before .before .before .before .before .before .before .before .before .before .before .before .before .before .before .before .before .before .before .before .before .before .before .before .before .before .before .before .before .pre .flying)
+hear-whole-requires c κs =
+    let p = c .before .before .before .before .before .before .before .before .before .before .before .before .before .before .before .before .before .before .before .before .before .before .before .before .before .before .before .before .before .before .before .before .before .before .pre in
+    (p .0 .record-slots, p .0 .flying, p .1)
 
 tell-requires : tie.Need-tell-requires
 tell-requires c κs = search needs

@@ -23,7 +23,7 @@ passed (Ordered p) k = refl
 
 judge-requires : tie.Need-judge-requires
 judge-requires c κs =
-    let p = c .before .before .before .before .before .before .before .before .pre in
+    let p = c .before .before .before .before .before .before .before .before .pre .0 in
     (p .four, p .streams .four, p .streams .indices, λ j h. p .streams .each j h .few)
 
 enum-known-plan : tie.Need-enum-known-plan
@@ -43,7 +43,7 @@ returns c =
     (sym (c .before .before .before .before .judge .ensures) ∙ e) (c .refused .ensures)
 
 perform-requires : tie.Need-perform-requires
-perform-requires c κs = (c .before .before .before .before .before .before .before .before .before .before .before .before .before .before .before .before .pre, c .before .before .before .before .before .before .before .judge .ensures, passed (c .before .before .before .before .before .before .before .judge .result) (c .before .before .before .before .before .before .match .keys2))
+perform-requires c κs = (c .before .before .before .before .before .before .before .before .before .before .before .before .before .before .before .before .pre .0, c .before .before .before .before .before .before .before .judge .ensures, passed (c .before .before .before .before .before .before .before .judge .result) (c .before .before .before .before .before .before .match .keys2), c .before .before .before .before .before .before .before .before .before .before .before .before .before .before .before .before .pre .1)
 
 same-length-2 : tie.Need-same-length-2
 same-length-2 c = c .before .before .before .before .before .before .before .before .before .before .before .before .perform .kept .1 .1 .0

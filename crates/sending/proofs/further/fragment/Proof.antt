@@ -22,7 +22,7 @@ abbrev state : tie.Start → State
 state c = lending (c .args .end) (now (c .args .received)) (now (c .args .number)) (now (c .args .records)) (now (c .args .payloads)) (now (c .args .slots)) (now (c .args .entry)) (now (c .args .header)) (now (c .args .joined)) (now (c .args .index)) (now (c .args .lengths)) (now (c .args .held))
 
 gate : (c : tie.Start) → Opened (c .args .sizes) (state c) (now (c .args .output))
-gate c = opened (c .args .sizes) (state c) (now (c .args .output)) (c .pre)
+gate c = opened (c .args .sizes) (state c) (now (c .args .output)) (c .pre .0)
 
 table : (c : tie.Start) → length (tableOf (c .args .sizes) (now (c .args .number))) ≡ c .args .sizes .«packets_in_flight»
 table c = whole (c .args .sizes) (state c) (now (c .args .output)) (gate c)
@@ -51,7 +51,7 @@ slice-aggregate-find : tie.Need-slice-aggregate-find
 slice-aggregate-find c = sym (table (c .before .before .before .before .before .before .before .before .before .before .before .before .before))
 
 find-requires : tie.Need-find-requires
-find-requires c κs = search needs
+find-requires c κs = c .before .before .before .before .before .before .before .before .before .before .before .before .before .pre .1
 
 returns : tie.Need-returns
 returns c =

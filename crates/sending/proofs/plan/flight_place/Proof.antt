@@ -9,7 +9,7 @@ enum-told-2 : tie.Need-enum-told-2
 enum-told-2 c = search needs
 
 place-requires : tie.Need-place-requires
-place-requires c κs = search needs
+place-requires c κs = (c .before .before .before .pre .0, λ e. c .before .before .before .pre .1 e .1)
 
 returns : tie.Need-returns
 returns c = search needs

@@ -74,7 +74,7 @@ returns-4 c =
     sym (fifth (a .sizes) _ _ _ _ _ _ (listed (c .before .before .before .before .before .before .before)) (short (c .before .before .before .before .before)) (few (c .before .before)) out)
 
 flight-place-requires : tie.Need-flight-place-requires
-flight-place-requires c κs = some (c .before .before .before .before .before .before .before .before .before .before)
+flight-place-requires c κs = (some (c .before .before .before .before .before .before .before .before .before .before), c .before .before .before .before .before .before .before .before .before .before .pre .4)
 
 returns-5 : tie.Need-returns-5
 returns-5 c =
