@@ -26,9 +26,7 @@ impl<'a> PacketReader<'a> {
     pub fn read_headers(&mut self, version: u16) -> Read
         ensures { λ r. ⌜ (r ≡ readOf version (now (now (self .entry) .buffer))) × (now (self .exit) ≡ moved (now (self .entry)) (readOf version (now (now (self .entry) .buffer)))) ⌝ }
     {
-        let answer = packet::read_headers(version, self.buffer);
-        self.position = position_after(answer, self.position);
-        answer
+        read_and_move(version, self.buffer, &mut self.position)
     }
 
     // The bytes from the position on, in their place; none where it lies past the end.
@@ -55,6 +53,15 @@ pub fn rest(buffer: &[u8], position: usize) -> &[u8]
         return &buffer[buffer.len()..];
     }
     &buffer[position..]
+}
+
+// The work, over a plain slice and a plain position.
+fn read_and_move(version: u16, buffer: &[u8], position: &mut usize) -> Read
+    ensures { λ r. ⌜ (r ≡ readOf version (now (buffer .entry))) × (now (position .exit) ≡ positionAfter (readOf version (now (buffer .entry))) (now (position .entry))) ⌝ }
+{
+    let answer = packet::read_headers(version, buffer);
+    *position = position_after(answer, *position);
+    answer
 }
 
 // Where the payload starts; a refusal leaves the position.

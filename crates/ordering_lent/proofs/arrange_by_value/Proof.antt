@@ -53,7 +53,6 @@ use Rattle.ordering.specs.State.{lending}
 use Rattle.ordering.specs.Gate.{Arranges}
 use Rattle.ordering.specs.declared.OrderingStream.{OrderingStream}
 use Rattle.ordering.specs.declared.Arranged.{Arranged}
-use Rattle.ordering.specs.declared.AfterArrange.{AfterArrange}
 use Rattle.ordering.proofs.OrderingStream as T
 use Rattle.ordering.proofs.OrderingStream.Laws as T′
 use Rattle.ordering.proofs.AfterArrange as R
