@@ -6,6 +6,7 @@ use mathlib.Core.List.{List, _++_}
 use lib.ListN.{length, take, drop}
 use lib.Dec.{ltb}
 use Rattle.terms.specs.declared.Refusal.the-variants.{BadStorage, BadHeader}
+use Rattle.terms.specs.Refusals.{numberOf}
 use Rattle.packet.specs.declared.Headers.{Headers}
 use Rattle.packet.specs.declared.table.Following.{Following}
 use Rattle.packet.specs.declared.Built.{Built}
@@ -27,6 +28,11 @@ buildOf h payload output =
 abbrev pub leaves : Built → List ℕ → List ℕ → List ℕ
 leaves (Datagram end) d output = d ++ drop end output
 leaves (Refused why) d output = output
+
+-- document 01's number for each answer, 0 where nothing is refused
+abbrev pub numberOfBuilt : Built → ℕ
+numberOfBuilt (Datagram end) = 0
+numberOfBuilt (Refused why) = numberOf why
 
 -- what the builder answers and leaves
 pub record Builds (v : ℕ) (h : Headers) (payload output : List ℕ) (answer : Built) (after : List ℕ) : Type 0 where

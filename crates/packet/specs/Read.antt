@@ -5,6 +5,7 @@ use mathlib.Core.List.{List}
 use lib.ListN.{length}
 use lib.Dec.{ltb, leb, eqb}
 use Rattle.terms.specs.declared.Refusal.the-variants.{CouldNotReadHeader, BadHeader}
+use Rattle.terms.specs.Refusals.{numberOf}
 use Rattle.packet.specs.declared.StandardHeader.{StandardHeader}
 use Rattle.packet.specs.declared.FragmentHeader.{FragmentHeader}
 use Rattle.packet.specs.declared.AckedPacketHeader.{AckedPacketHeader}
@@ -75,6 +76,11 @@ readOf v d =
     cond (ltb (length d) 5) (Refused CouldNotReadHeader)
     (cond (unknown v d || misfit s (follows s) (length d - 5)) (Refused BadHeader)
     (followingRead s (follows s) d))
+
+-- document 01's number for each answer, 0 where nothing is refused
+abbrev pub numberOfRead : Read → ℕ
+numberOfRead (Found headers at) = 0
+numberOfRead (Refused why) = numberOf why
 
 -- a cursor goes past a header of n bytes where it is there
 abbrev pub pastOf : ℕ → ℕ → Bool → ℕ → Next
