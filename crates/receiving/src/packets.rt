@@ -82,15 +82,8 @@ fn perform(
     let standard = headers.standard;
     let delivery = standard.delivery;
     let reassembly = end.reassembly;
-    let acks = hear(
-        delivery,
-        sizes,
-        end.acks,
-        received,
-        number,
-        headers.acked,
-        home,
-    );
+    let acked = headers.acked;
+    let acks = hear(delivery, sizes, end.acks, received, number, acked, home);
     let sequencing = sequence(plan, end.sequencing, headers.arranging);
     let ordering = arrange(
         plan,

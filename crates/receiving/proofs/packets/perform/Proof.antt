@@ -11,20 +11,20 @@ use Rattle.receiving.specs.Packets.{handed}
 use Rattle.receiving.specs.declared.Answer.{Answer}
 use Rattle.receiving.proofs.Plans.{sequenced-ready, ordered-ready}
 
-answered : (c : tie.After-tell) → c .tell .result ≡ told (c .before .before .before .before .before .before .before .before .before .before .before .before .before .before .before .before .before .before .before .before .before .before .before .before .before .before .before .before .before .args .plan) (itemOf (c .before .before .before .before .before .before .before .before .before .before .before .before .before .before .before .before .before .before .before .before .before .before .before .before .before .before .before .before .before .args .headers) (length (now (c .before .before .before .before .before .before .before .before .before .before .before .before .before .before .before .before .before .before .before .before .before .before .before .before .before .before .before .before .before .args .payload))))
-answered c = c .tell .ensures ∙ ap (told (c .before .before .before .before .before .before .before .before .before .before .before .before .before .before .before .before .before .before .before .before .before .before .before .before .before .before .before .before .before .args .plan)) (c .before .item .ensures)
+answered : (c : tie.After-tell) → c .tell .result ≡ told (c .before .before .before .before .before .before .before .before .before .before .before .before .before .before .before .before .before .before .before .before .before .before .before .before .before .before .before .before .before .before .args .plan) (itemOf (c .before .before .before .before .before .before .before .before .before .before .before .before .before .before .before .before .before .before .before .before .before .before .before .before .before .before .before .before .before .before .args .headers) (length (now (c .before .before .before .before .before .before .before .before .before .before .before .before .before .before .before .before .before .before .before .before .before .before .before .before .before .before .before .before .before .before .args .payload))))
+answered c = c .tell .ensures ∙ ap (told (c .before .before .before .before .before .before .before .before .before .before .before .before .before .before .before .before .before .before .before .before .before .before .before .before .before .before .before .before .before .before .args .plan)) (c .before .item .ensures)
 
 hear-requires : tie.Need-hear-requires
 hear-requires c κs = search needs
 
 sequence-requires : tie.Need-sequence-requires
 sequence-requires c κs =
-    let s = c .before .before .before .before .before .before .before .before .before .before .before .before .before .before .before .before in
+    let s = c .before .before .before .before .before .before .before .before .before .before .before .before .before .before .before .before .before in
     sequenced-ready (s .args .plan) (s .args .headers) (s .args .end .ordering) (now (s .args .index)) (s .args .end .sequencing) (s .pre .1) (s .pre .0 .four)
 
 arrange-requires : tie.Need-arrange-requires
 arrange-requires c κs =
-    let s = c .before .before .before .before .before .before .before .before .before .before .before .before .before .before .before .before .before .before .before .before in
+    let s = c .before .before .before .before .before .before .before .before .before .before .before .before .before .before .before .before .before .before .before .before .before in
     (s .pre .0 .streams, s .pre .0 .short, ordered-ready (s .args .plan) (s .args .headers) (s .args .end .ordering) (now (s .args .index)) (s .args .end .sequencing) (s .pre .1) (s .pre .0 .streams .four))
 
 item-requires : tie.Need-item-requires
@@ -35,7 +35,7 @@ tell-requires c κs = search needs
 
 hand-out-requires : tie.Need-hand-out-requires
 hand-out-requires c κs =
-    let p = c .before .before .before .before .before .before .before .before .before .before .before .before .before .before .before .before .before .before .before .before .before .before .before .before .before .before .before .before .before .before .pre .0 in
+    let p = c .before .before .before .before .before .before .before .before .before .before .before .before .before .before .before .before .before .before .before .before .before .before .before .before .before .before .before .before .before .before .before .pre .0 in
     omega (arith, p .short, p .room)
 
 same-length : tie.Need-same-length
@@ -58,7 +58,7 @@ same-length-6 c = c .before .before .hand-out .kept .1 .1 .0
 
 returns : tie.Need-returns
 returns c =
-    let s = c .before .before .before .before .before .before .before .before .before .before .before .before .before .before .before .before .before .before .before .before .before .before .before .before .before .before .before .before .before .before .before .before .before in
+    let s = c .before .before .before .before .before .before .before .before .before .before .before .before .before .before .before .before .before .before .before .before .before .before .before .before .before .before .before .before .before .before .before .before .before .before in
     let h = c .before .before .before .before .before .before .before .before .before .before .before .before .before .before .before .before .before .before .before .before .before .hear .ensures in
     let g = c .before .before .before .before .before .before .before .before .before .before .before .before .arrange .ensures in
     let a = answered (c .before .before .before .before) in
