@@ -3,7 +3,7 @@
 // and then a number is found without a walk.
 ghost use mathlib.Core.Path.{_≡_};
 ghost use mathlib.Core.Bool.{true};
-ghost use Prim.Native.Nat.{ℕ, _+_, _%_, _≤_, _<_};
+ghost use Prim.Native.Nat.{ℕ, _+_, _/_, _%_, _≤_, _<_};
 ghost use lib.ListN.{length, getD};
 ghost use Rattle.flight.specs.AtHome.{AtHome, PlaceHome};
 ghost use Rattle.flight.specs.Entry.{lengthOf};
@@ -72,28 +72,27 @@ fn is_part_home(
     false
 }
 
-// No length in the part is over its slot. Of a record above the limit, the record or what is left of the limit has its
-// highest bit.
+// No length in the part is over its slot: one that is would make a sum with the highest bit.
 fn do_fit(records: &[u64], at: usize, room: usize) -> bool
     requires { ⌜ (at + 32 ≤ length (now records)) × (room ≤ 16384) ⌝ }
     ensures { λ r. ⌜ (r ≡ true → (k : ℕ) → k < 32 → lengthOf (getD (now (records .entry)) (at + k) 0) ≤ room) ⌝ }
 {
-    let limit = room as u64 * 4294967296 + 4294967295;
+    let rest = 9223372036854775807 - room as u64;
     let mut all: u64 = 0;
     let mut k: usize = 0;
     while k < keys::parts::PART {
-        all = all | with_rest(records[at + k], limit);
+        all = all | with_rest(records[at + k], rest);
         k += 1;
     }
     all < 9223372036854775808
 }
 
-// The bits of a word, and of what is left of a limit after it.
-fn with_rest(word: u64, limit: u64) -> u64
-    requires { ⌜ limit < 9223372036854775808 ⌝ }
-    ensures { λ r. ⌜ (r < 9223372036854775808 → word ≤ limit) ⌝ }
+// A word's upper half, whose lower bits are the length, and the rest from the room to the highest bit.
+fn with_rest(word: u64, rest: u64) -> u64
+    requires { ⌜ rest < 9223372036854775808 ⌝ }
+    ensures { λ r. ⌜ r ≡ word / 4294967296 + rest ⌝ }
 {
-    word | std::num::wrapping_sub_u64(limit, word)
+    word / 4294967296 + rest
 }
 
 // Not 13, as `places::is_sound` tells it, quickly where the table is at home. Requires a record for each place.

@@ -1,27 +1,23 @@
--- Where the bits seen have not the highest, no record passed is above the limit.
+-- The word with every bit is at least each sum passed.
 use borrow.Author.Needs.{needs}
 use Rattle.flight.proofs.home.do_fit.Statement.{statement}
 use Rattle.flight.proofs.home.do_fit.Tie as tie
 use native.Mathlib.Nat.{not-suc-le-zero}
 use native.Mathlib.Omega.{arith}
-use Prim.Native.Nat.{ℕ, _+_, _-_, _≤_, _<_}
+use Prim.Native.Nat.{ℕ, _+_, _-_, _/_, _≤_, _<_}
 use lib.Bits.{or-add-and, and-le-l, and-le-r}
 use lib.ListN.{getD}
-use denote.Ref.{now}
 use borrow.Author.Count.{below-more}
 use borrow.Author.Tests.{ltb-true}
 
 abbrev Inv-loop : tie.InvT-loop
-Inv-loop records at room limit all₀ k₀ all k = (k ≤ 32) × ((j : ℕ) → j < k → all < 9223372036854775808 → getD records (at + j) 0 ≤ limit)
+Inv-loop records at room rest all₀ k₀ all k = (k ≤ 32) × ((j : ℕ) → j < k → getD records (at + j) 0 / 4294967296 + rest ≤ all)
 
 abbrev μ-loop : tie.MeasureT-loop
-μ-loop records at room limit all₀ k₀ all k = 32 - k
+μ-loop records at room rest all₀ k₀ all k = 32 - k
 
-mul-limit : tie.Need-mul-limit Inv-loop μ-loop
-mul-limit c = search needs
-
-add-limit : tie.Need-add-limit Inv-loop μ-loop
-add-limit c = search needs
+sub-rest : tie.Need-sub-rest Inv-loop μ-loop
+sub-rest c = search needs
 
 loop-holds : tie.Need-loop-holds Inv-loop μ-loop
 loop-holds c = (omega arith, λ j h. absurd (not-suc-le-zero h))
@@ -50,14 +46,16 @@ loop-again c =
     let u = c .with-rest .result in (
       omega arith,
       below-more _ (l .k)
-          (λ j h z. l .inv .1 j h (omega (arith, or-add-and (l .all) u, and-le-r (l .all) u)))
-          (λ z. c .with-rest .ensures (omega (arith, or-add-and (l .all) u, and-le-l (l .all) u))),
+          (λ j h. omega (arith, l .inv .1 j h, or-add-and (l .all) u, and-le-r (l .all) u))
+          (omega (arith, c .with-rest .ensures, or-add-and (l .all) u, and-le-l (l .all) u)),
     )
 
 returns : tie.Need-returns Inv-loop μ-loop
 returns c =
     λ e k h.
-    let w = c .before .loop .inv .1 k (omega arith) (ltb-true _ _ e) in
+    let l = c .before .loop in
+    let r = l .inv .1 k (omega arith) in
+    let q : l .all < 9223372036854775808 = ltb-true _ _ e in
     omega arith
 
 pub do-fit-spec : {M : Type 1} → statement M
@@ -66,8 +64,7 @@ do-fit-spec =
     (tie.spec
     Inv-loop
     μ-loop
-    mul-limit
-    add-limit
+    sub-rest
     loop-holds
     add-with-rest
     mul-with-rest
