@@ -10,7 +10,6 @@ mod stand_ins;
 use infrastructure::AcknowledgmentHandler;
 use packet::{OrderingGuarantee, PacketType};
 use sequence_buffer::SequenceBuffer;
-use std::hint::black_box;
 use std::io::Read;
 
 // As in crates/bench/src/marks.rt.
@@ -35,6 +34,11 @@ fn mark(on: bool) {
     if on {
         unsafe { write(1, [].as_ptr(), 0) };
     }
+}
+
+/// Hides from the compiler what is referred to. `std::hint::black_box` is younger than Debian's rustc.
+fn hidden<T>(it: &T) -> &T {
+    unsafe { std::ptr::read_volatile(&it) }
 }
 
 #[derive(Clone, Default)]
@@ -91,7 +95,7 @@ fn give_up(handler: &mut AcknowledgmentHandler, call: u8) {
 
 fn ask(handler: &AcknowledgmentHandler, call: u8) {
     mark(call == IN_FLIGHT);
-    let count = black_box(handler).packets_in_flight();
+    let count = hidden(handler).packets_in_flight();
     mark(call == IN_FLIGHT);
     mark(call == FIELD);
     let field = handler.ack_bitfield();
