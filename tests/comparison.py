@@ -10,15 +10,14 @@ import sys
 
 from generator import MODES, script
 from generator.text import from_text
-from interoperation import half, once_and_in_order
+from interoperation import half, once_and_in_order, returns
 
 ROOT = pathlib.Path(__file__).resolve().parent.parent
 ORACLE = [str(ROOT / "target/oracle/release/oracle")]
 KEPT = ROOT / "target/compare"
 DIFFERENCES = ROOT / "tests/differences"
 MARKED_CASES = ROOT / "tests/marked-cases.hex"
-# The parts that the program replay answers for so far; the others wait for its operations.
-ANSWERED = ["marked-cases", "buffer", "ack", "fragments", "ordering", "sequencing"]
+PARTS = ["marked-cases", *MODES, "differences"]
 
 
 def port():
@@ -63,9 +62,9 @@ def compare_scripts(part, scripts, port):
 
 
 def compare_sessions(seeds, port):
-    """Whether the port's end and laminar's understand each other, either way about, and every ordered
-    item comes out once and in order."""
-    compared = items = 0
+    """Whether the port's end and laminar's understand each other, either way about, and two ends of the
+    port each other; and every ordered item comes out once and in order."""
+    compared = items = past = 0
     for seed in seeds:
         said = script("session", seed)
         both_laminar = lines(ORACLE, said)
@@ -73,16 +72,17 @@ def compare_sessions(seeds, port):
         if arrived is None:
             print(f"session {seed}: laminar's own ends lose, repeat or disorder an item")
             return False
-        for end in (0, 1):
-            given, theirs = half(said, both_laminar, end)
+        whole = "at both ends", said, both_laminar
+        halves = [(f"at end {end}", *half(said, both_laminar, end)) for end in (0, 1)]
+        for where, given, theirs in [whole, *halves]:
             difference = first_difference(lines(port, given), theirs)
             if difference:
-                say_difference(f"session {seed} port at end {end}", given, difference)
+                say_difference(f"session {seed} port {where}", given, difference)
                 return False
             compared += len(theirs)
-        items += arrived
-    print(f"session: {compared} lines agree, {len(seeds)} sessions with the port at either end, "
-          f"{items} items once and in order", flush=True)
+        items, past = items + arrived, past + returns(both_laminar)
+    print(f"session: {compared} lines agree, {len(seeds)} sessions with the port at either end and at both, "
+          f"{items} items once and in order; {past} sessions pass item 65,535", flush=True)
     return True
 
 
@@ -119,17 +119,16 @@ def compare_part(part, seeds, port):
 
 
 def main():
-    parts = ["marked-cases", *MODES, "differences"]
     words = argparse.ArgumentParser(prog="tests/compare", description=__doc__)
-    words.add_argument("--seeds", type=int, default=40, help="scripts for each mode (40)")
+    words.add_argument("--seeds", type=int, default=24, help="scripts for each mode (24)")
     words.add_argument("--first", type=int, default=0, help="the first seed (0)")
-    words.add_argument("parts", nargs="*", metavar="PART", help=f"some of: {', '.join(parts)}")
+    words.add_argument("parts", nargs="*", metavar="PART", help=f"some of: {', '.join(PARTS)}")
     given = words.parse_args()
-    if not set(given.parts) <= set(parts):
-        words.error(f"the parts are {', '.join(parts)}")
+    if not set(given.parts) <= set(PARTS):
+        words.error(f"the parts are {', '.join(PARTS)}")
     seeds = range(given.first, given.first + given.seeds)
     program = port()
-    agree = [compare_part(part, seeds, program) for part in given.parts or ANSWERED]
+    agree = [compare_part(part, seeds, program) for part in given.parts or PARTS]
     return 0 if all(agree) else 1
 
 

@@ -62,3 +62,17 @@ def once_and_in_order(script, lines):
             return None
         count += sum(map(len, sent.values()))
     return count
+
+
+def returns(lines):
+    """Whether a stream's item after 65,535 was sent, as item 0 of the stream, to the other end."""
+    last = {}
+    for line in lines:
+        for datagram in map(bytes.fromhex, said(line) if " send " in line else []):
+            if datagram[2:5] != bytes([0, 1, ORDERED]):
+                continue
+            stream, item = (line[:4], datagram[15]), int.from_bytes(datagram[13:15], "big")
+            if item == 0 and last.get(stream) == 65535:
+                return True
+            last[stream] = item
+    return False

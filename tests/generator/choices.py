@@ -52,9 +52,9 @@ def short(rng, most):
     return payload(rng, rng.choice([max(most - 1, 0), most]))
 
 
-def start(rng):
+def start(rng, most=60):
     """How far a counter is brought: not at all, near the half, or near its return."""
-    return rng.choice([0, HALF - rng.randint(1, 60), ALL - rng.randint(1, 60), ALL - 1])
+    return rng.choice([0, HALF - rng.randint(1, most), ALL - rng.randint(1, most), ALL - 1])
 
 
 def way_to(target):

@@ -20,6 +20,9 @@ def script(rng):
 
 
 class Session:
+    # How near a counter is brought, and by which items.
+    near, brought = 60, [NONE, SEQUENCED, ORDERED, ORDERED]
+
     def __init__(self, rng):
         self.rng = rng
         f = size(rng, 256)
@@ -51,8 +54,8 @@ class Session:
         """What one end sent and had acknowledged, the other receives, so the two stay in step. A
         fed item has two bytes."""
         for e in (0, 1):
-            count = start(self.rng)
-            ordering = self.rng.choice([NONE, SEQUENCED, ORDERED, ORDERED])
+            count = start(self.rng, self.near)
+            ordering = self.rng.choice(self.brought)
             if self.ends[e].f < 2:
                 ordering = NONE
             id = self.rng.choice(self.ids[ordering or SEQUENCED])

@@ -5,6 +5,8 @@ from .fields import NONE, ORDERED, RELIABLE, SEQUENCED, u16, u32, u8
 
 VERSION = 21513
 MOST_IN_FLIGHT, MOST_HELD = 256, 64
+# `replay` has room for half as many payloads where F is over this.
+F_FOR_ALL_IN_FLIGHT = 128
 
 
 def greater(a, b):
@@ -40,7 +42,8 @@ class SequenceBuffer:
 
 
 class Acknowledgment:
-    def __init__(self):
+    def __init__(self, most=MOST_IN_FLIGHT):
+        self.most = most
         self.local, self.remote = 0, 65535
         self.flight = {}
         self.received = SequenceBuffer(33)
@@ -53,7 +56,7 @@ class Acknowledgment:
         return sum(1 << i for i, there in enumerate(before) if there)
 
     def has_room(self):
-        return len(self.flight.keys() - {self.local}) < MOST_IN_FLIGHT
+        return len(self.flight.keys() - {self.local}) < self.most
 
     def incoming(self, seq, ack, field):
         if greater(ack, self.remote):
@@ -148,7 +151,7 @@ class Ordering:
 class End:
     def __init__(self, sizes):
         self.f, self.c, self.m = sizes
-        self.ack = Acknowledgment()
+        self.ack = Acknowledgment(MOST_IN_FLIGHT if self.f <= F_FOR_ALL_IN_FLIGHT else MOST_IN_FLIGHT // 2)
         self.reassembly = Reassembly(self.c)
         self.ordered, self.sequenced = {}, {}
         self.log = []

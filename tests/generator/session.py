@@ -13,6 +13,9 @@ def script(rng):
 
 
 class Honest(Session):
+    # So near that most streams that are brought there pass it.
+    near, brought = 12, [ORDERED]
+
     def __init__(self, rng):
         super().__init__(rng)
         self.strange = 0

@@ -1,8 +1,9 @@
 // Tags 20 to 25: the acknowledgments of one end, with room for 256 packets in flight.
-ghost use Prim.Native.Nat.{_<_};
 use crate::print;
+use crate::record;
 use crate::script;
 use crate::script::Said;
+use crate::turns;
 use acknowledgment::AckBitfield;
 use acknowledgment::Acknowledgment;
 use acknowledgment::DroppedPackets;
@@ -355,7 +356,7 @@ fn drops(
     let mut left = most(tag);
     while 0 < left {
         let came = drop_one(counters, received, number, records, bytes, output, left);
-        left = fewer(left, came);
+        left = turns::fewer(left, came);
     }
 }
 
@@ -368,17 +369,6 @@ fn most(tag: u8) -> usize {
 
 // The turns of a list: one for each packet, and one that finds nothing.
 const FIRST: usize = 257;
-
-// One turn less, or none where nothing came.
-fn fewer(left: usize, came: bool) -> usize
-    requires { ⌜ 0 < left ⌝ }
-    ensures { λ r. ⌜ r < left ⌝ }
-{
-    if came {
-        return left - 1;
-    }
-    0
-}
 
 fn drop_one(
     counters: Acknowledgment,
@@ -426,13 +416,5 @@ fn tell_packet(dropped: Dropped, output: &[u8]) {
     print::text(b" ");
     print::bytes(script::part(output, 0, dropped.count));
     let item = sent.item;
-    tell_sent(sent.ordering, sent.stream as u64, item);
-}
-
-fn tell_sent(ordering: u8, stream: u64, item: ItemId) {
-    match ordering {
-        0 => print::text(b",none,-,-"),
-        1 => print::say(b",sequenced,%,%", [stream, item.0 as u64, 0, 0]),
-        _ => print::say(b",ordered,%,%", [stream, item.0 as u64, 0, 0]),
-    }
+    record::tell(sent.ordering, sent.stream, item);
 }

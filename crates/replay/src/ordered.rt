@@ -1,8 +1,8 @@
 // Tags 50 to 55: one ordered stream.
-ghost use Prim.Native.Nat.{_<_};
 use crate::print;
 use crate::script;
 use crate::script::Said;
+use crate::turns;
 use ordering::Arranged;
 use ordering::OrderingStream;
 use ordering::Taken;
@@ -274,7 +274,7 @@ fn take(
     while 0 < left {
         let count = handed.count;
         handed = take_one(handed, index, lengths, bytes, output, tag);
-        left = fewer(left, handed.count == count);
+        left = turns::fewer(left, handed.count != count);
     }
     handed
 }
@@ -285,17 +285,6 @@ fn most(tag: u8) -> usize {
         0x53 => 1,
         _ => 64,
     }
-}
-
-// One turn less, or none where nothing came.
-fn fewer(left: usize, nothing: bool) -> usize
-    requires { ⌜ 0 < left ⌝ }
-    ensures { λ r. ⌜ r < left ⌝ }
-{
-    if nothing {
-        return 0;
-    }
-    left - 1
 }
 
 fn take_one(

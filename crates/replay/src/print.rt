@@ -36,6 +36,13 @@ pub fn bytes(s: &[u8]) {
     flush(&text, at);
 }
 
+// A list without items is `-`.
+pub fn dash_where(empty: bool) {
+    if empty {
+        text(b" -");
+    }
+}
+
 fn put(text: &mut [u8], at: usize, word: u8, n: u64) -> usize {
     match word {
         b'%' => decimal(text, at, n),

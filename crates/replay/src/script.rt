@@ -105,6 +105,21 @@ impl Window {
     }
 }
 
+// The tag of a field, 0 where there is none, and its body.
+pub fn tag(field: Field) -> u8 {
+    let Field::Whole(tag, _, _) = field else {
+        return 0;
+    };
+    tag
+}
+
+pub fn body(input: &[u8], field: Field) -> &[u8] {
+    let Field::Whole(_, start, end) = field else {
+        return &input[..0];
+    };
+    part(input, start, end)
+}
+
 // The bytes from start to end, none where they are not there.
 pub fn part(bytes: &[u8], start: usize, end: usize) -> &[u8] {
     if start <= end && end <= bytes.len() {
@@ -149,7 +164,7 @@ pub fn long(bytes: &[u8], at: usize) -> u32 {
 }
 
 // a - b, 0 where b is more.
-fn difference(a: usize, b: usize) -> usize {
+pub fn difference(a: usize, b: usize) -> usize {
     if a < b {
         return 0;
     }
@@ -157,7 +172,7 @@ fn difference(a: usize, b: usize) -> usize {
 }
 
 // a + b; lengths of one buffer never come near the end of the range.
-fn sum(a: usize, b: usize) -> usize {
+pub fn sum(a: usize, b: usize) -> usize {
     std::num::wrapping_add_usize(a, b)
 }
 
@@ -174,4 +189,26 @@ fn move_down(bytes: &mut [u8], from: usize, count: usize) {
         bytes[i] = bytes[from + i];
         i += 1;
     }
+}
+
+// The two bytes of a number.
+pub fn high(n: u16) -> u8 {
+    (n / 256) as u8
+}
+
+pub fn low(n: u16) -> u8 {
+    (n % 256) as u8
+}
+
+// The last byte of a number.
+pub fn octet(n: usize) -> u8 {
+    (n % 256) as u8
+}
+
+// A stream: where the first of its two bytes is 0 it is laminar's default, 255.
+pub fn stream(bytes: &[u8], at: usize) -> u8 {
+    if byte(bytes, at) == 0 {
+        return 255;
+    }
+    byte(bytes, sum(at, 1))
 }
