@@ -2,14 +2,13 @@
 // until none.
 use crate::calls;
 use crate::calls::Connection;
-use crate::print;
-use crate::script;
-use crate::turns;
 use ordering::Taken;
 use packet::DeliveryGuarantee;
 use packet::OrderingGuarantee;
 use receiving::Answer;
 use receiving::Item;
+use script::print;
+use script::turns;
 
 // An end, and how many items have come out of it so far.
 pub struct Arrived {

@@ -6,13 +6,12 @@ use crate::calls::Connection;
 use crate::departures;
 use crate::log;
 use crate::losses;
-use crate::print;
-use crate::script;
-use crate::script::Field;
-use crate::script::Said;
 use crate::tables;
 use link::fresh::Fresh;
 use link::status::Asked;
+use script::Field;
+use script::Said;
+use script::print;
 use terms::Sizes;
 
 pub struct Done {

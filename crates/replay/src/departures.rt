@@ -2,8 +2,6 @@
 use crate::calls;
 use crate::calls::Connection;
 use crate::log;
-use crate::print;
-use crate::script;
 use packet::AckedPacketHeader;
 use packet::ArrangingHeader;
 use packet::Built;
@@ -14,6 +12,7 @@ use packet::OrderingGuarantee;
 use packet::PacketType;
 use packet::StandardHeader;
 use packet::table;
+use script::print;
 use sending::Answer;
 use sending::further::Further;
 use serial::ItemId;

@@ -1,6 +1,5 @@
 // A row of byte strings in one lent array: a table of where each ends, four bytes each after a first 0, then their bytes. An
 // end's log is one, and so are the packets that it has given up.
-use crate::script;
 
 // The most strings.
 pub const MOST: usize = 1024;

@@ -4,13 +4,12 @@ use crate::calls;
 use crate::calls::Connection;
 use crate::departures;
 use crate::log;
-use crate::print;
-use crate::record;
-use crate::script;
-use crate::turns;
 use acknowledgment::DroppedPackets;
 use flight::SentPacket;
 use flight::lost::Dropped;
+use script::print;
+use script::record;
+use script::turns;
 use serial::ItemId;
 
 // An end, and how many packets it has given up.
