@@ -1,13 +1,14 @@
 -- What the places of a table say of the whole. Assumes nothing.
+--     lap-multiple    a number without its remainder
 --     fits-all        no length is over its slot, where none is at any place
 --     all-home        places at home make a table at home
 --     home-sound      which is not 13
 --     place-here, place-free     where a number goes in a table at home
-use mathlib.Core.Path.{_≡_, refl}
+use mathlib.Core.Path.{_≡_, refl, ap, _∙_}
 use mathlib.Core.Bool.{true, false, not}
 use mathlib.Core.List.{List, [], _∷_}
-use Prim.Native.Nat.{ℕ, suc, _%_, _≤_, _<_, zero-le, suc-le-suc}
-use native.Mathlib.Nat.{mod-lt}
+use Prim.Native.Nat.{ℕ, suc, _-_, _*_, _/_, _%_, _≤_, _<_, zero-le, suc-le-suc}
+use native.Mathlib.Nat.{mod-lt, div-add-mod', mul-mod-left}
 use native.Mathlib.Omega.{arith}
 use lib.ListN.{length, getD}
 use lib.Dec.{ltb}
@@ -18,6 +19,11 @@ use Rattle.keys.proofs.Homes.{step-home, home-once, home-here, home-away}
 use Rattle.flight.specs.Entry.{lengthOf}
 use Rattle.flight.specs.Places.{overLong, sound, placeOf}
 use Rattle.flight.specs.AtHome.{AtHome, PlaceHome}
+
+pub lap-multiple : (n a : ℕ) → (a - a % n) % n ≡ 0
+lap-multiple n a =
+    let e : a - a % n ≡ (a / n) * n = omega (arith, div-add-mod' a n) in
+    ap (λ (x : ℕ). x % n) e ∙ mul-mod-left (a / n) n
 
 pub fits-all : (room : ℕ) (number records : List ℕ)
     → ((j : ℕ) → j < length number → getD number j 0 < 65536 → lengthOf (getD records j 0) ≤ room)

@@ -3,11 +3,14 @@
 // and then a number is found without a walk.
 ghost use mathlib.Core.Path.{_≡_};
 ghost use mathlib.Core.Bool.{true};
-ghost use Prim.Native.Nat.{ℕ, _+_, _/_, _%_, _≤_, _<_};
+ghost use mathlib.Core.Logic.{_⊎_};
+ghost use Prim.Native.Nat.{ℕ, _+_, _%_, _≤_, _<_};
 ghost use lib.ListN.{length, getD};
+ghost use Rattle.keys.specs.Home.{InStep};
 ghost use Rattle.flight.specs.AtHome.{AtHome, PlaceHome};
 ghost use Rattle.flight.specs.Entry.{lengthOf};
 ghost use Rattle.flight.specs.Places.{sound};
+use crate::fits;
 use serial::PacketNumber;
 
 // Each number is at home and no length is over its slot: not 13. A `false` says nothing. `next` is the number that is
@@ -17,15 +20,20 @@ pub fn is_home(number: &[u32], records: &[u64], room: usize, next: PacketNumber)
     ensures { λ r. ⌜ (r ≡ true → AtHome room (now (number .entry)) (now (records .entry))) ⌝ }
 {
     let n = number.len();
-    let lap = next.0 - next.0 % (n as u16);
+    let here = next.0 % (n as u16);
+    let lap = next.0 - here;
     let last = serial::distance(lap, n as u16);
-    if !is_multiple(lap, n) {
-        return false;
-    }
     if !is_multiple(last, n) {
         return false;
     }
-    are_parts_home(number, records, room, lap, last)
+    are_parts_home(
+        number,
+        records,
+        room,
+        here as usize,
+        lap as u32,
+        last as u32,
+    )
 }
 
 fn is_multiple(number: u16, of: usize) -> bool
@@ -35,20 +43,27 @@ fn is_multiple(number: u16, of: usize) -> bool
     number as usize % of == 0
 }
 
-// Each number is its place added to one of two numbers, and no length is over its slot. Parts only: a table that is no
-// multiple of them is not looked at to its end.
-fn are_parts_home(number: &[u32], records: &[u64], room: usize, lap: u16, last: u16) -> bool
-    requires { ⌜ (length (now number) ≤ 256) × (length (now number) ≤ length (now records)) × (room ≤ 16384) ⌝ }
+// Each number is its place added to one of two numbers, and no length is over its slot. `here` is the place of the number
+// that is sent next.
+fn are_parts_home(
+    number: &[u32],
+    records: &[u64],
+    room: usize,
+    here: usize,
+    lap: u32,
+    last: u32,
+) -> bool
+    requires { ⌜ (length (now number) ≤ 256) × (length (now number) ≤ length (now records)) × (room ≤ 16384) × (lap < 65536) × (last < 65536) ⌝ }
     ensures { λ r. ⌜ (r ≡ true → (j : ℕ) → j < length (now (number .entry)) → PlaceHome room lap last (now (number .entry)) (now (records .entry)) j) ⌝ }
 {
     let mut at: usize = 0;
-    while at + keys::parts::PART <= number.len() {
-        if !is_part_home(number, records, room, at, lap as u32, last as u32) {
+    while at + keys::wide::WIDE <= number.len() {
+        if !is_part_home(number, records, room, here, at, lap, last) {
             return false;
         }
-        at += keys::parts::PART;
+        at += keys::wide::WIDE;
     }
-    at == number.len()
+    is_rest_home(number, records, room, at, lap, last)
 }
 
 // Of one part. Requires it.
@@ -56,43 +71,96 @@ fn is_part_home(
     number: &[u32],
     records: &[u64],
     room: usize,
+    here: usize,
     at: usize,
     lap: u32,
     last: u32,
 ) -> bool
-    requires { ⌜ (at + 32 ≤ length (now number)) × (at + 32 ≤ length (now records)) × (at < 256) × (room ≤ 16384) × (lap < 65536) × (last < 65536) ⌝ }
-    ensures { λ r. ⌜ (r ≡ true → (k : ℕ) → k < 32 → PlaceHome room lap last (now (number .entry)) (now (records .entry)) (at + k)) ⌝ }
+    requires { ⌜ (at + 64 ≤ length (now number)) × (at + 64 ≤ length (now records)) × (at < 256) × (room ≤ 16384) × (lap < 65536) × (last < 65536) ⌝ }
+    ensures { λ r. ⌜ (r ≡ true → (k : ℕ) → k < 64 → PlaceHome room lap last (now (number .entry)) (now (records .entry)) (at + k)) ⌝ }
 {
-    if keys::parts::none_in(number, at) {
+    if is_free(number, at) {
         return true;
     }
-    if keys::parts::in_step(number, at, lap, last) {
-        return do_fit(records, at, room);
+    if !is_in_step(number, here, at, lap, last) {
+        return false;
     }
-    false
+    fits::do_fit(records, at, room)
 }
 
-// No length in the part is over its slot: one that is would make a sum with the highest bit.
-fn do_fit(records: &[u64], at: usize, room: usize) -> bool
-    requires { ⌜ (at + 32 ≤ length (now records)) × (room ≤ 16384) ⌝ }
-    ensures { λ r. ⌜ (r ≡ true → (k : ℕ) → k < 32 → lengthOf (getD (now (records .entry)) (at + k) 0) ≤ room) ⌝ }
+// The part has no number. Where it has some, its first or its last place mostly has one. Requires the part.
+fn is_free(number: &[u32], at: usize) -> bool
+    requires { ⌜ at + 64 ≤ length (now number) ⌝ }
+    ensures { λ r. ⌜ (r ≡ true → (k : ℕ) → k < 64 → 65536 ≤ getD (now (number .entry)) (at + k) 0) ⌝ }
 {
-    let rest = 9223372036854775807 - room as u64;
-    let mut all: u64 = 0;
-    let mut k: usize = 0;
-    while k < keys::parts::PART {
-        all = all | with_rest(records[at + k], rest);
-        k += 1;
+    if number[at] < 65536 {
+        return false;
     }
-    all < 9223372036854775808
+    if number[at + 63] < 65536 {
+        return false;
+    }
+    keys::wide::none_in(number, at)
 }
 
-// A word's upper half, whose lower bits are the length, and the rest from the room to the highest bit.
-fn with_rest(word: u64, rest: u64) -> u64
-    requires { ⌜ rest < 9223372036854775808 ⌝ }
-    ensures { λ r. ⌜ r ≡ word / 4294967296 + rest ⌝ }
+// Each number of the part is its place added to one of two numbers, for nearly every part to the same. Requires the part.
+fn is_in_step(number: &[u32], here: usize, at: usize, lap: u32, last: u32) -> bool
+    requires { ⌜ (at + 64 ≤ length (now number)) × (at < 256) × (lap < 65536) × (last < 65536) ⌝ }
+    ensures { λ r. ⌜ (r ≡ true → (k : ℕ) → k < 64 → InStep lap last (at + k) (getD (now (number .entry)) (at + k) 0)) ⌝ }
 {
-    word / 4294967296 + rest
+    if keys::wide::follows(number, at, nearer(here, at, lap, last) + at as u32) {
+        return true;
+    }
+    if !keys::parts::in_step(number, at, lap, last) {
+        return false;
+    }
+    keys::parts::in_step(number, at + keys::parts::PART, lap, last)
+}
+
+// Before the place of the next number stand this lap's numbers, after it the last lap's.
+fn nearer(here: usize, at: usize, lap: u32, last: u32) -> u32
+    ensures { λ r. ⌜ (r ≡ lap) ⊎ (r ≡ last) ⌝ }
+{
+    if at < here {
+        return lap;
+    }
+    last
+}
+
+// Of the places behind the last part, one by one.
+fn is_rest_home(
+    number: &[u32],
+    records: &[u64],
+    room: usize,
+    from: usize,
+    lap: u32,
+    last: u32,
+) -> bool
+    requires { ⌜ (from ≤ length (now number)) × (length (now number) ≤ 256) × (length (now number) ≤ length (now records)) × (lap < 65536) × (last < 65536) ⌝ }
+    ensures { λ r. ⌜ (r ≡ true → (j : ℕ) → from ≤ j → j < length (now (number .entry)) → PlaceHome room lap last (now (number .entry)) (now (records .entry)) j) ⌝ }
+{
+    let mut i = from;
+    while i < number.len() {
+        if number[i] < 65536 {
+            if !is_entry_home(number[i], records[i], room, i as u32, lap, last) {
+                return false;
+            }
+        }
+        i += 1;
+    }
+    true
+}
+
+fn is_entry_home(entry: u32, word: u64, room: usize, place: u32, lap: u32, last: u32) -> bool
+    requires { ⌜ (place < 65536) × (lap < 65536) × (last < 65536) ⌝ }
+    ensures { λ r. ⌜ (r ≡ true → ((entry ≡ lap + place) ⊎ (entry ≡ last + place)) × (lengthOf word ≤ room)) ⌝ }
+{
+    if room < crate::entry::payload_length(word) {
+        return false;
+    }
+    if entry == lap + place {
+        return true;
+    }
+    entry == last + place
 }
 
 // Not 13, as `places::is_sound` tells it, quickly where the table is at home. Requires a record for each place.

@@ -14,6 +14,7 @@ use serial::PacketNumber;
 pub mod acked;
 pub mod direct;
 pub mod entry;
+mod fits;
 pub mod home;
 pub mod lost;
 pub mod places;

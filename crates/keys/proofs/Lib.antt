@@ -3,3 +3,4 @@ pub mod First
 pub mod Twice
 pub mod KeySet
 pub mod Homes
+pub mod Breaks

@@ -1,3 +1,4 @@
 pub mod Keys
 pub mod Exact
 pub mod Home
+pub mod Breaks

@@ -9,6 +9,8 @@ ghost use Rattle.keys.specs.Home.{OwnBelow};
 
 mod marks;
 pub mod parts;
+pub mod turn;
+pub mod wide;
 
 // The first place of a key, or the column's length where it has none.
 pub fn find(keys: &[u32], key: u16) -> usize

@@ -9,15 +9,14 @@ use native.Mathlib.Nat.{not-suc-le-zero}
 use native.Mathlib.Omega.{arith}
 use lib.ListN.{length}
 use denote.Ref.{now}
-use borrow.Author.Tests.{eqb-true}
 use Rattle.laws.proofs.Cases.{both, on, lt-or-le}
 use Rattle.flight.specs.AtHome.{PlaceHome}
 
 abbrev Inv-loop : tie.InvT-loop
-Inv-loop number records room lap last at₀ at = (at ≤ length number) × ((j : ℕ) → j < at → PlaceHome room lap last number records j)
+Inv-loop number records room here lap last at₀ at = (at ≤ length number) × ((j : ℕ) → j < at → PlaceHome room lap last number records j)
 
 abbrev μ-loop : tie.MeasureT-loop
-μ-loop number records room lap last at₀ at = length number - at
+μ-loop number records room here lap last at₀ at = length number - at
 
 loop-holds : tie.Need-loop-holds Inv-loop μ-loop
 loop-holds c = (omega arith, λ j h. absurd (not-suc-le-zero h))
@@ -51,12 +50,14 @@ loop-again c =
           (lt-or-le j (l .at)),
     )
 
+is-rest-home-requires : tie.Need-is-rest-home-requires Inv-loop μ-loop
+is-rest-home-requires c κs = search needs
+
 returns-2 : tie.Need-returns-2 Inv-loop μ-loop
 returns-2 c =
     λ e j h.
-    let l = c .before .loop in
-    let q : l .at ≡ length (now (c .before .before .before .before .args .number)) = eqb-true _ _ e in
-    l .inv .1 j (omega arith)
+    let l = c .before .before .loop in
+    ⊎-elim (λ w. l .inv .1 j w) (λ w. c .is-rest-home .ensures e j w h) (lt-or-le j (l .at))
 
 pub are-parts-home-spec : {M : Type 1} → statement M
 are-parts-home-spec =
@@ -71,4 +72,5 @@ are-parts-home-spec =
     add-at
     loop-less
     loop-again
+    is-rest-home-requires
     returns-2)

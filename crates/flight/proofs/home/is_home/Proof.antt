@@ -8,16 +8,18 @@ use native.Mathlib.Omega.{arith}
 use lib.ListN.{length}
 use denote.Ref.{now}
 use Rattle.laws.proofs.Cases.{both, on}
-use Rattle.flight.proofs.Homes.{all-home}
+use Rattle.flight.proofs.Homes.{lap-multiple, all-home}
 
-cast-lap : tie.Need-cast-lap
-cast-lap c = search needs
+cast-here : tie.Need-cast-here
+cast-here c = search needs
 
-rem-lap : tie.Need-rem-lap
-rem-lap c = search needs
+rem-here : tie.Need-rem-here
+rem-here c = search needs
 
 sub-lap : tie.Need-sub-lap
-sub-lap c = omega (arith, mod-le (c .before .before .before .before .args .next .0) (length (now (c .before .before .before .before .args .number))))
+sub-lap c =
+    let a = c .before .before .before .before .args in
+    omega (arith, mod-le (a .next .0) (length (now (a .number))))
 
 cast-distance : tie.Need-cast-distance
 cast-distance c = search needs
@@ -31,35 +33,41 @@ is-multiple-requires c κs = search needs
 returns : tie.Need-returns
 returns c = λ e. both e refl
 
-is-multiple-requires-2 : tie.Need-is-multiple-requires-2
-is-multiple-requires-2 c κs = search needs
+cast-are-parts-home : tie.Need-cast-are-parts-home
+cast-are-parts-home c =
+    let a = c .before .before .before .before .before .before .before .args in
+    omega (arith, mod-le (a .next .0) (length (now (a .number))))
 
-returns-2 : tie.Need-returns-2
-returns-2 c = λ e. both e refl
+cast-are-parts-home-2 : tie.Need-cast-are-parts-home-2
+cast-are-parts-home-2 c = search needs
+
+cast-are-parts-home-3 : tie.Need-cast-are-parts-home-3
+cast-are-parts-home-3 c = search needs
 
 are-parts-home-requires : tie.Need-are-parts-home-requires
 are-parts-home-requires c κs = search needs
 
-returns-3 : tie.Need-returns-3
-returns-3 c =
+returns-2 : tie.Need-returns-2
+returns-2 c =
     λ e.
     all-home _ _ _ _ _
-    (c .before .before .before .before .is-multiple .ensures (on _ (c .before .before .before .if1 .left)))
-    (c .before .before .is-multiple2 .ensures (on _ (c .before .if2 .left)))
+    (lap-multiple _ _)
+    (c .before .before .is-multiple .ensures (on _ (c .before .if1 .left)))
     (c .are-parts-home .ensures e)
 
 pub is-home-spec : {M : Type 1} → statement M
 is-home-spec =
     tie.close
     (tie.spec
-    cast-lap
-    rem-lap
+    cast-here
+    rem-here
     sub-lap
     cast-distance
     distance-requires
     is-multiple-requires
     returns
-    is-multiple-requires-2
-    returns-2
+    cast-are-parts-home
+    cast-are-parts-home-2
+    cast-are-parts-home-3
     are-parts-home-requires
-    returns-3)
+    returns-2)
