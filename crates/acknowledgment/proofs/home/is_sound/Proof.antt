@@ -2,12 +2,8 @@
 use borrow.Author.Needs.{needs}
 use Rattle.acknowledgment.proofs.home.is_sound.Statement.{statement}
 use Rattle.acknowledgment.proofs.home.is_sound.Tie as tie
-use mathlib.Core.Path.{_≡_, refl, sym, ap, _∙_}
-use mathlib.Core.Bool.{Bool, true, false, not, _&&_}
-use native.Mathlib.Omega.{arith}
-use lib.Seq.{length-take-le}
-use denote.Ref.{now}
-use Rattle.received.specs.Record.{slotCount}
+use mathlib.Core.Path.{_≡_, refl, _∙_}
+use mathlib.Core.Bool.{Bool, true, false, _&&_}
 use Rattle.flight.proofs.Homes.{home-sound}
 use Rattle.acknowledgment.specs.Gate.{sound}
 
@@ -15,15 +11,12 @@ and-yes : (b : Bool) → b ≡ (b && true)
 and-yes true = refl
 and-yes false = refl
 
-slice-aggregate-has-twice : tie.Need-slice-aggregate-has-twice
-slice-aggregate-has-twice c = omega (arith, length-take-le slotCount (now (c .before .before .before .before .before .args .received)) (c .before .before .before .before .before .pre .1))
-
-has-twice-requires : tie.Need-has-twice-requires
-has-twice-requires c κs = search needs
+is-record-sound-requires : tie.Need-is-record-sound-requires
+is-record-sound-requires c κs = search needs
 
 returns : tie.Need-returns
 unfolding sound
-returns c = rw (home-sound _ _ _ (c .before .before .before .before .before .before .pre .4 (c .before .before .if1 .taken)), c .has-twice .ensures) (and-yes _)
+returns c = rw (home-sound _ _ _ (c .before .before .before .before .before .pre .4 (c .before .if1 .taken))) (c .is-record-sound .ensures ∙ and-yes _)
 
 is-sound-requires : tie.Need-is-sound-requires
 is-sound-requires c κs = search needs
@@ -32,6 +25,4 @@ returns-2 : tie.Need-returns-2
 returns-2 c = search needs
 
 pub is-sound-spec : {M : Type 1} → statement M
-is-sound-spec =
-    tie.close
-    (tie.spec slice-aggregate-has-twice has-twice-requires returns is-sound-requires returns-2)
+is-sound-spec = tie.close (tie.spec is-record-sound-requires returns is-sound-requires returns-2)
