@@ -1,7 +1,7 @@
 // 1, 2 and 13, which every call of a user tries first.
 ghost use mathlib.Core.Path.{_≡_};
-ghost use mathlib.Core.Bool.{_||_};
-ghost use Prim.Native.Nat.{_≤_};
+ghost use mathlib.Core.Bool.{true, _||_};
+ghost use Prim.Native.Nat.{_%_, _≤_, _<_};
 ghost use lib.Dec.{leb};
 ghost use lib.ListN.{length};
 ghost use Rattle.reassembly.specs.Words.{entryOf};
@@ -68,14 +68,33 @@ pub fn sound(f: usize, slots: &[u32], entry: &[u64]) -> bool
     requires { ⌜ (f ≤ 1024) × (length (now slots) ≤ length (now entry)) ⌝ }
     ensures { λ r. ⌜ r ≡ soundness f (now (slots .entry)) (now (entry .entry)) ⌝ }
 {
+    let mut home = true;
     let mut i: usize = 0;
     while i < slots.len() {
         if !sound_beside(f, slots[i], entry[i]) {
             return false;
         }
+        home = stays_home(home, slots[i], i, slots.len());
         i += 1;
     }
+    if home {
+        return true;
+    }
     !keys::has_twice(slots)
+}
+
+// Each number so far stands in its own slot, and this one too, if it is one: then none stands twice.
+fn stays_home(home: bool, slot: u32, at: usize, size: usize) -> bool
+    requires { ⌜ 1 ≤ size ⌝ }
+    ensures { λ r. ⌜ (r ≡ true → (home ≡ true) × (slot < 65536 → slot % size ≡ at)) ⌝ }
+{
+    if 65536 <= slot {
+        return home;
+    }
+    if slot as usize % size != at {
+        return false;
+    }
+    home
 }
 
 // What stands beside a slot without a number may be anything.
