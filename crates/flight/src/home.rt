@@ -53,12 +53,13 @@ fn are_parts_home(
     lap: u32,
     last: u32,
 ) -> bool
-    requires { ⌜ (length (now number) ≤ 256) × (length (now number) ≤ length (now records)) × (room ≤ 16384) × (lap < 65536) × (last < 65536) ⌝ }
+    requires { ⌜ (length (now number) ≤ 256) × (length (now number) ≤ length (now records)) × (room ≤ 16384) × (here ≤ length (now number)) × (lap < 65536) × (last < 65536) ⌝ }
     ensures { λ r. ⌜ (r ≡ true → (j : ℕ) → j < length (now (number .entry)) → PlaceHome room lap last (now (number .entry)) (now (records .entry)) j) ⌝ }
 {
+    let newest = newest_part(number, here);
     let mut at: usize = 0;
     while at + keys::wide::WIDE <= number.len() {
-        if !is_part_home(number, records, room, here, at, lap, last) {
+        if !is_part_home(number, records, room, here, newest, at, lap, last) {
             return false;
         }
         at += keys::wide::WIDE;
@@ -72,6 +73,7 @@ fn is_part_home(
     records: &[u64],
     room: usize,
     here: usize,
+    newest: usize,
     at: usize,
     lap: u32,
     last: u32,
@@ -79,7 +81,7 @@ fn is_part_home(
     requires { ⌜ (at + 64 ≤ length (now number)) × (at + 64 ≤ length (now records)) × (at < 256) × (room ≤ 16384) × (lap < 65536) × (last < 65536) ⌝ }
     ensures { λ r. ⌜ (r ≡ true → (k : ℕ) → k < 64 → PlaceHome room lap last (now (number .entry)) (now (records .entry)) (at + k)) ⌝ }
 {
-    if is_free(number, at) {
+    if is_free(number, newest, at) {
         return true;
     }
     if !is_in_step(number, here, at, lap, last) {
@@ -88,18 +90,32 @@ fn is_part_home(
     fits::do_fit(records, at, room)
 }
 
-// The part has no number. Where it has some, its first or its last place mostly has one. Requires the part.
-fn is_free(number: &[u32], at: usize) -> bool
+// The part has no number. Where it has some, it is the newest number's or one mostly stands at its last place. Requires
+// the part.
+fn is_free(number: &[u32], newest: usize, at: usize) -> bool
     requires { ⌜ at + 64 ≤ length (now number) ⌝ }
     ensures { λ r. ⌜ (r ≡ true → (k : ℕ) → k < 64 → 65536 ≤ getD (now (number .entry)) (at + k) 0) ⌝ }
 {
-    if number[at] < 65536 {
+    if at == newest {
         return false;
     }
     if number[at + 63] < 65536 {
         return false;
     }
     keys::wide::none_in(number, at)
+}
+
+// Where the part begins that has the newest number, if that is in flight. It makes the answer quick, not right.
+fn newest_part(number: &[u32], here: usize) -> usize
+    requires { ⌜ here ≤ length (now number) ⌝ }
+{
+    if here == 0 {
+        return number.len();
+    }
+    if number[here - 1] >= 65536 {
+        return number.len();
+    }
+    (here - 1) / keys::wide::WIDE * keys::wide::WIDE
 }
 
 // Each number of the part is its place added to one of two numbers, for nearly every part to the same. Requires the part.

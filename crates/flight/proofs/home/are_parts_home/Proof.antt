@@ -13,10 +13,13 @@ use Rattle.laws.proofs.Cases.{both, on, lt-or-le}
 use Rattle.flight.specs.AtHome.{PlaceHome}
 
 abbrev Inv-loop : tie.InvT-loop
-Inv-loop number records room here lap last at₀ at = (at ≤ length number) × ((j : ℕ) → j < at → PlaceHome room lap last number records j)
+Inv-loop number records room here lap last newest at₀ at = (at ≤ length number) × ((j : ℕ) → j < at → PlaceHome room lap last number records j)
 
 abbrev μ-loop : tie.MeasureT-loop
-μ-loop number records room here lap last at₀ at = length number - at
+μ-loop number records room here lap last newest at₀ at = length number - at
+
+newest-part-requires : tie.Need-newest-part-requires Inv-loop μ-loop
+newest-part-requires c κs = search needs
 
 loop-holds : tie.Need-loop-holds Inv-loop μ-loop
 loop-holds c = (omega arith, λ j h. absurd (not-suc-le-zero h))
@@ -39,7 +42,7 @@ loop-less c = search needs
 loop-again : tie.Need-loop-again Inv-loop μ-loop
 loop-again c =
     let l = c .before .before .before .loop in
-    let a = c .before .before .before .before .before .before .args in
+    let a = c .before .before .before .before .before .before .before .args in
     let part = c .before .is-part-home .ensures (on _ (c .if1 .left)) in (
       omega arith,
       λ j h.
@@ -65,6 +68,7 @@ are-parts-home-spec =
     (tie.spec
     Inv-loop
     μ-loop
+    newest-part-requires
     loop-holds
     add-loop
     is-part-home-requires

@@ -5,12 +5,6 @@ use Rattle.flight.proofs.home.is_free.Tie as tie
 use mathlib.Core.Path.{refl}
 use Rattle.laws.proofs.Cases.{both}
 
-mul-if1 : tie.Need-mul-if1
-mul-if1 c = search needs
-
-shared-slice-read-if1 : tie.Need-shared-slice-read-if1
-shared-slice-read-if1 c = search needs
-
 returns : tie.Need-returns
 returns c = λ e. both e refl
 
@@ -35,13 +29,4 @@ returns-3 c = search needs
 pub is-free-spec : {M : Type 1} → statement M
 is-free-spec =
     tie.close
-    (tie.spec
-    mul-if1
-    shared-slice-read-if1
-    returns
-    add-if2
-    mul-if2
-    shared-slice-read-if2
-    returns-2
-    none-in-requires
-    returns-3)
+    (tie.spec returns add-if2 mul-if2 shared-slice-read-if2 returns-2 none-in-requires returns-3)

@@ -3,7 +3,7 @@ use borrow.Author.Needs.{needs}
 use Rattle.flight.proofs.home.is_home.Statement.{statement}
 use Rattle.flight.proofs.home.is_home.Tie as tie
 use mathlib.Core.Path.{refl}
-use native.Mathlib.Nat.{mod-le}
+use native.Mathlib.Nat.{mod-le, mod-lt}
 use native.Mathlib.Omega.{arith}
 use lib.ListN.{length}
 use denote.Ref.{now}
@@ -45,7 +45,10 @@ cast-are-parts-home-3 : tie.Need-cast-are-parts-home-3
 cast-are-parts-home-3 c = search needs
 
 are-parts-home-requires : tie.Need-are-parts-home-requires
-are-parts-home-requires c κs = search needs
+are-parts-home-requires c κs =
+    let s = c .before .before .before .before .before .before .before in
+    let n = length (now (s .args .number)) in
+    omega (arith, s .pre, mod-lt (s .args .next .0) {m = n} (s .pre .0), mod-le (s .args .next .0) n)
 
 returns-2 : tie.Need-returns-2
 returns-2 c =
