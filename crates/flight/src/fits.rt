@@ -1,7 +1,7 @@
 // Whether the recorded lengths of 64 packets fit their slots, without a branch for each. A `false` says nothing.
 ghost use mathlib.Core.Path.{_≡_};
 ghost use mathlib.Core.Bool.{true};
-ghost use Prim.Native.Nat.{ℕ, _+_, _*_, _≤_, _<_};
+ghost use Prim.Native.Nat.{ℕ, _+_, _≤_, _<_};
 ghost use lib.ListN.{length, getD};
 ghost use Rattle.flight.specs.Entry.{lengthOf};
 

@@ -4,7 +4,7 @@ use Rattle.flight.proofs.home.is_in_step.Statement.{statement}
 use Rattle.flight.proofs.home.is_in_step.Tie as tie
 use mathlib.Core.Path.{_≡_, refl, subst}
 use mathlib.Core.Logic.{⊎-elim, inl, inr}
-use Prim.Native.Nat.{ℕ, _+_, _-_, _<_}
+use Prim.Native.Nat.{ℕ, _+_, _-_}
 use native.Mathlib.Omega.{arith}
 use lib.ListN.{getD}
 use denote.Ref.{now}

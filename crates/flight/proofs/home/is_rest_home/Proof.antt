@@ -2,14 +2,14 @@
 use borrow.Author.Needs.{needs}
 use Rattle.flight.proofs.home.is_rest_home.Statement.{statement}
 use Rattle.flight.proofs.home.is_rest_home.Tie as tie
-use mathlib.Core.Path.{_≡_, refl}
+use mathlib.Core.Path.{refl}
 use mathlib.Core.Logic.{⊎-elim}
-use Prim.Native.Nat.{ℕ, _+_, _-_, _≤_, _<_}
+use Prim.Native.Nat.{ℕ, _-_, _≤_, _<_}
 use native.Mathlib.Omega.{arith}
-use lib.ListN.{length, getD}
+use lib.ListN.{length}
 use denote.Ref.{now}
 use borrow.Author.Count.{below-more}
-use Rattle.laws.proofs.Cases.{both, on, lt-or-le}
+use Rattle.laws.proofs.Cases.{both, on}
 use Rattle.flight.specs.AtHome.{PlaceHome}
 
 abbrev Inv-loop : tie.InvT-loop
