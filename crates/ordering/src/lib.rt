@@ -16,10 +16,10 @@ pub mod taking;
 // The small counters of a stream. How it is called is told by whoever has several.
 pub struct OrderingStream {
     pub expected_index: ItemId,
-    // How many items wait, in the first places of the lent tables.
-    pub held: usize,
     // The identifier of the next item sent.
     pub next_item: ItemId,
+    // How many items wait, in the first places of the lent tables.
+    pub held: usize,
 }
 
 // What becomes of an item that has come. `plan::judge` answers it as a plan, `arrange` once it is done.
