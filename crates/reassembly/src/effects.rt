@@ -77,9 +77,9 @@ fn number_in(
 {
     match plan {
         Plan::Refuse(_) => sequence_num,
-        Plan::Make => make_entry(true, sequence_num, slots, number),
+        Plan::Make => make_entry(sequence_num, slots, number),
         Plan::Join(joining) => {
-            let after = make_entry(joining.made, sequence_num, slots, number);
+            let after = make_if(joining.made, sequence_num, slots, number);
             let entry = joining.entry;
             remove_entry(entry.received == entry.total, slots, number);
             after
@@ -87,7 +87,17 @@ fn number_in(
     }
 }
 
-fn make_entry(
+// By itself, so that a fragment of a message that is known calls nothing.
+fn make_entry(sequence_num: PacketNumber, slots: &mut [u32], number: PacketNumber) -> PacketNumber
+    requires { ⌜ (1 ≤ length (now slots)) × (length (now slots) ≤ 64) ⌝ }
+    ensures { λ r. ⌜ r .0 ≡ insertedNum («sequence_num» .0) (now (slots .entry)) (number .0) ⌝ }
+    ensures { λ _. ⌜ now (slots .exit) ≡ insertedSlots («sequence_num» .0) (now (slots .entry)) (number .0) ⌝ }
+{
+    let inserted = sequence_buffer::insert(sequence_num, slots, number);
+    inserted.sequence_num
+}
+
+fn make_if(
     made: bool,
     sequence_num: PacketNumber,
     slots: &mut [u32],
@@ -98,8 +108,7 @@ fn make_entry(
     ensures { λ _. ⌜ now (slots .exit) ≡ cond made (insertedSlots («sequence_num» .0) (now (slots .entry)) (number .0)) (now (slots .entry)) ⌝ }
 {
     if made {
-        let inserted = sequence_buffer::insert(sequence_num, slots, number);
-        return inserted.sequence_num;
+        return make_entry(sequence_num, slots, number);
     }
     sequence_num
 }

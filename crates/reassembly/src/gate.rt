@@ -2,10 +2,11 @@
 ghost use mathlib.Core.Path.{_≡_};
 ghost use mathlib.Core.Bool.{true, _||_};
 ghost use Prim.Native.Nat.{_%_, _≤_, _<_};
-ghost use lib.Dec.{leb};
+ghost use lib.Dec.{eqb, leb};
 ghost use lib.ListN.{length};
 ghost use Rattle.reassembly.specs.Words.{entryOf};
-ghost use Rattle.reassembly.specs.Gate.{entrySound, sound as soundness, tooShort, gateOf};
+ghost use Rattle.laws.specs.Bits.{bit};
+ghost use Rattle.reassembly.specs.Gate.{countBelow, entrySound, sound as soundness, tooShort, gateOf};
 use crate::words::Entry;
 use terms::Gate;
 use terms::Refusal;
@@ -113,8 +114,20 @@ fn sound_entry(f: usize, entry: Entry) -> bool
     requires { ⌜ f ≤ 1024 ⌝ }
     ensures { λ r. ⌜ r ≡ entrySound f entry ⌝ }
 {
-    if entry.received as u32 != u32::count_ones(entry.ids as u32) {
+    if !are_so_many(entry.ids, entry.received) {
         return false;
     }
     entry.joined as usize <= f * (entry.received as usize)
+}
+
+// So many ids were received. Fragments mostly come in order, and then it is the first ones.
+fn are_so_many(ids: u16, received: u8) -> bool
+    ensures { λ r. ⌜ r ≡ eqb received (countBelow (bit ids) 16) ⌝ }
+{
+    if received <= 16 {
+        if (1u32 << received) - 1 == ids as u32 {
+            return true;
+        }
+    }
+    received as u32 == u32::count_ones(ids as u32)
 }

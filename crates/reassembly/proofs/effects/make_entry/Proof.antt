@@ -13,10 +13,7 @@ returns : tie.Need-returns
 unfolding inserted
 returns c =
     let made = c .before .before .before .insert .ensures in
-    (rw (c .before .before .before .before .before .if1 .taken, made .0), rw (c .before .before .before .before .before .if1 .taken) (made .1))
-
-returns-2 : tie.Need-returns-2
-returns-2 c = (rw (c .if1 .left), rw (c .if1 .left))
+    (rw (made .0), made .1)
 
 pub make-entry-spec : {M : Type 1} → statement M
-make-entry-spec = tie.close (tie.spec insert-requires same-length returns returns-2)
+make-entry-spec = tie.close (tie.spec insert-requires same-length returns)

@@ -17,8 +17,8 @@ make-entry-requires c κs = search needs
 enum-known-plan : tie.Need-enum-known-plan
 enum-known-plan c = search needs
 
-make-entry-requires-2 : tie.Need-make-entry-requires-2
-make-entry-requires-2 c κs = search needs
+make-if-requires : tie.Need-make-if-requires
+make-if-requires c κs = search needs
 
 remove-entry-requires : tie.Need-remove-entry-requires
 remove-entry-requires c κs = search needs
@@ -46,7 +46,7 @@ returns-3 : tie.Need-returns-3
 unfolding numAfter slotsAfter
 returns-3 c =
     let e : c .before .before .before .before .before .before .before .before .before .before .before .before .before .before .args .plan ≡ Join (c .before .before .before .before .before .before .before .before .before .before .before .plan .given .0 .0) = c .before .before .before .before .before .before .before .before .before .before .before .plan .given .1 in
-    let made = c .before .before .before .before .before .before .before .before .make-entry2 .ensures in
+    let made = c .before .before .before .before .before .before .before .before .make-if .ensures in
     (rw e (made .0), rw (e, ← made .1) (c .before .before .remove-entry .ensures))
 
 pub number-in-spec : {M : Type 1} → statement M
@@ -57,7 +57,7 @@ number-in-spec =
     enum-told-2
     make-entry-requires
     enum-known-plan
-    make-entry-requires-2
+    make-if-requires
     remove-entry-requires
     returns
     same-length
