@@ -57,14 +57,18 @@ fn are_parts_home(
     ensures { λ r. ⌜ (r ≡ true → (j : ℕ) → j < length (now (number .entry)) → PlaceHome room lap last (now (number .entry)) (now (records .entry)) j) ⌝ }
 {
     let newest = newest_part(number, here);
+    let end = number.len() / keys::wide::WIDE * keys::wide::WIDE;
     let mut at: usize = 0;
-    while at + keys::wide::WIDE <= number.len() {
+    while at < end {
         if !is_part_home(number, records, room, here, newest, at, lap, last) {
             return false;
         }
         at += keys::wide::WIDE;
     }
-    is_rest_home(number, records, room, at, lap, last)
+    if at == number.len() {
+        return true;
+    }
+    is_rest_home(number, records, room, after_free(number, at), lap, last)
 }
 
 // Of one part. Requires it.
@@ -123,13 +127,27 @@ fn is_in_step(number: &[u32], here: usize, at: usize, lap: u32, last: u32) -> bo
     requires { ⌜ (at + 64 ≤ length (now number)) × (at < 256) × (lap < 65536) × (last < 65536) ⌝ }
     ensures { λ r. ⌜ (r ≡ true → (k : ℕ) → k < 64 → InStep lap last (at + k) (getD (now (number .entry)) (at + k) 0)) ⌝ }
 {
-    if keys::wide::follows(number, at, nearer(here, at, lap, last) + at as u32) {
+    if follows(number, at, nearer(here, at, lap, last) + at as u32) {
         return true;
     }
     if !keys::parts::in_step(number, at, lap, last) {
         return false;
     }
     keys::parts::in_step(number, at + keys::parts::PART, lap, last)
+}
+
+// The part's numbers follow each other. Requires the part.
+fn follows(number: &[u32], at: usize, first: u32) -> bool
+    requires { ⌜ at + 64 ≤ length (now number) ⌝ }
+    ensures { λ r. ⌜ (r ≡ true → (k : ℕ) → k < 64 → getD (now (number .entry)) (at + k) 0 < 65536 → getD (now (number .entry)) (at + k) 0 ≡ first + k) ⌝ }
+{
+    if first % 64 != 0 {
+        return false;
+    }
+    if 65536 <= first {
+        return false;
+    }
+    keys::wide::follows(number, at, first)
 }
 
 // Before the place of the next number stand this lap's numbers, after it the last lap's.
@@ -140,6 +158,17 @@ fn nearer(here: usize, at: usize, lap: u32, last: u32) -> u32
         return lap;
     }
     last
+}
+
+// Where the places behind the last part are to be looked at from: after 32 of them, if those have no number.
+fn after_free(number: &[u32], at: usize) -> usize
+    requires { ⌜ at ≤ length (now number) ⌝ }
+    ensures { λ r. ⌜ (at ≤ r) × (r ≤ length (now (number .entry))) × ((j : ℕ) → at ≤ j → j < r → 65536 ≤ getD (now (number .entry)) j 0) ⌝ }
+{
+    if is_part_free(number, at) {
+        return at + keys::parts::PART;
+    }
+    at
 }
 
 // Of the places behind the last part, one by one.
@@ -224,7 +253,7 @@ fn first_number(number: &[u32]) -> u16 {
 
 // A part starts here, and has no number.
 fn is_part_free(number: &[u32], at: usize) -> bool
-    ensures { λ r. ⌜ (r ≡ true → at + 32 ≤ length (now (number .entry))) ⌝ }
+    ensures { λ r. ⌜ (r ≡ true → (at + 32 ≤ length (now (number .entry))) × ((k : ℕ) → k < 32 → 65536 ≤ getD (now (number .entry)) (at + k) 0)) ⌝ }
 {
     if at % keys::parts::PART != 0 {
         return false;

@@ -2,6 +2,7 @@
 --     bit-or         the bits of a number in which one more was set
 --     bits-taken, bits-left     one turn of a loop that makes `bitsBelow` bit by bit
 --     bits-at        the sum's bit j is set exactly where p holds at j
+--     xor-none       numbers that differ in no bit are the same
 use mathlib.Core.Path.{_≡_, refl, sym, ap, ap₂, _∙_}
 use mathlib.Core.Bool.{Bool, true, false, cond, _||_}
 use mathlib.Core.Logic.{⊎-elim}
@@ -10,7 +11,7 @@ use native.Mathlib.Nat.{one-mul, zero-mul, zero-add, add-comm, mul-assoc, pow-su
 use native.Mathlib.Numerals.{add-one}
 use native.Mathlib.Omega.{arith}
 use lib.Arith.{digits-lt}
-use lib.Bits.{bitOr, or-shr, or-mod, or-shifted-r}
+use lib.Bits.{bitOr, bitXor, or-shr, or-mod, or-shifted-r, xor-add-and, and-le-l, and-le-r}
 use lib.Dec.{eqb}
 use lib.Pow.{shl-exact, shl-shr, pow-add, pow-lt, high, field}
 use borrow.Author.Tests.{eq-eqb, ne-eqb, eqb-true, eqb-false}
@@ -126,3 +127,6 @@ digit-at p (suc k) j h =
 
 pub bits-at : (p : ℕ → Bool) (k j : ℕ) → j < k → bit (bitsBelow p k) j ≡ p j
 bits-at p k j h = ap (λ (x : ℕ). eqb x 1) (digit-at p k j h) ∙ digit-eqb (p j)
+
+pub xor-none : (a b : ℕ) → bitXor a b ≡ 0 → a ≡ b
+xor-none a b e = omega (arith, xor-add-and a b, and-le-l a b, and-le-r a b)

@@ -21,7 +21,7 @@ add-follows : tie.Need-add-follows
 add-follows c = ⊎-elim (λ e. omega arith) (λ e. omega arith) (c .nearer .ensures)
 
 follows-requires : tie.Need-follows-requires
-follows-requires c κs = (search needs, ⊎-elim (λ e. omega arith) (λ e. omega arith) (c .nearer .ensures))
+follows-requires c κs = search needs
 
 returns : tie.Need-returns
 returns c =

@@ -22,7 +22,7 @@ none-in-requires : tie.Need-none-in-requires
 none-in-requires c κs = search needs
 
 returns-4 : tie.Need-returns-4
-returns-4 c = λ e. omega arith
+returns-4 c = λ e. (omega arith, c .none-in .ensures e)
 
 pub is-part-free-spec : {M : Type 1} → statement M
 is-part-free-spec =

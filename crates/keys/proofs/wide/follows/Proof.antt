@@ -33,9 +33,6 @@ shared-slice-read-without c = search needs
 cast-without : tie.Need-cast-without Inv-loop μ-loop
 cast-without c = search needs
 
-add-without-2 : tie.Need-add-without-2 Inv-loop μ-loop
-add-without-2 c = search needs
-
 without-requires : tie.Need-without-requires Inv-loop μ-loop
 without-requires c κs = search needs
 
@@ -70,7 +67,6 @@ follows-spec =
     mul-without
     shared-slice-read-without
     cast-without
-    add-without-2
     without-requires
     add-k
     loop-less
