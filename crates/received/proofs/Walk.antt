@@ -13,7 +13,7 @@ use Rattle.serial.specs.Order.{back}
 use Rattle.received.specs.Record.{slotCount}
 use Rattle.received.specs.Field.{Downwards}
 
-remainder : (x q r : ℕ) → x ≡ r + q * slotCount → r < slotCount → r ≡ x % slotCount
+pub remainder : (x q r : ℕ) → x ≡ r + q * slotCount → r < slotCount → r ≡ x % slotCount
 remainder x q r e h = sym (ap (λ (y : ℕ). y % slotCount) e ∙ add-mul-mod-self-right r q slotCount ∙ mod-eq-of-lt h)
 
 -- how far up the walk goes

@@ -2,8 +2,8 @@
 // says which of the 32 before it are in the record. Read `ack_bitfield` first. The record is a sequence buffer: the
 // number after the newest by value, its slots lent. Every function here is for the crates above.
 ghost use mathlib.Core.Path.{_≡_};
-ghost use mathlib.Core.Bool.{cond};
-ghost use Prim.Native.Nat.{_+_, _≤_, _<_};
+ghost use mathlib.Core.Bool.{cond, true};
+ghost use Prim.Native.Nat.{ℕ, _+_, _≤_, _<_};
 ghost use lib.ListN.{length};
 ghost use lib.Dec.{ltb};
 ghost use Rattle.laws.specs.Bits.{bitsBelow};
@@ -32,6 +32,9 @@ pub fn ack_bitfield(sequence_num: PacketNumber, received: &[u32]) -> u32
 {
     let newest = remote_sequence_num(sequence_num);
     let slots = &received[..SLOTS];
+    if is_whole(newest.0, slots) {
+        return 4294967295;
+    }
     let first = serial::distance(newest.0, 1);
     let at = slot(SLOTS, PacketNumber(first));
     let bottom = bits_to_bottom(at);
@@ -46,6 +49,37 @@ pub fn receive(sequence_num: PacketNumber, received: &mut [u32], number: PacketN
     ensures { λ _. ⌜ now (received .exit) ≡ recorded («sequence_num» .0) (now (received .entry)) (number .0) ⌝ }
 {
     insert(sequence_num, &mut received[..SLOTS], number)
+}
+
+// None of the 33 numbers up to the newest is missing, as is usual. The loop is never left early, so that the compiler takes
+// several slots at once. A `false` says nothing. Requires the record's slots.
+fn is_whole(newest: u16, slots: &[u32]) -> bool
+    requires { ⌜ length (now slots) ≡ slotCount ⌝ }
+    ensures { λ r. ⌜ (r ≡ true → (k : ℕ) → k < 32 → heard newest (now (slots .entry)) k ≡ true) ⌝ }
+{
+    if newest < 33 {
+        return false;
+    }
+    let at = (newest % 33) as u32;
+    let first = newest as u32 - at;
+    let mut off: u32 = 0;
+    let mut s: usize = 0;
+    while s < SLOTS {
+        off = off | (slots[s] ^ expected(first, at, s as u32));
+        s += 1;
+    }
+    off == 0
+}
+
+// The number that stands in a slot: this lap's up to the newest one's slot, after it the last lap's.
+fn expected(first: u32, at: u32, slot: u32) -> u32
+    requires { ⌜ (33 ≤ first) × (first < 65536) × (slot < slotCount) ⌝ }
+    ensures { λ r. ⌜ (slot ≤ at → r ≡ first + slot) × (at < slot → r + 33 ≡ first + slot) ⌝ }
+{
+    if slot <= at {
+        return first + slot;
+    }
+    first + slot - 33
 }
 
 // The bits from one to another, where the numbers stand in slots one below the other: no number's slot needs a remainder.
