@@ -1,6 +1,7 @@
 """The two sides that bench/run measures: builds both for x86-64, and counts what they execute between their marks.
 
-On another processor than x86-64 the Rust is built by Debian's rustc, which alone has its library for x86-64 at hand.
+The Rust is built by the newest rustc of Debian's packages, on every processor, so that its figures are the same on each: the library
+for x86-64 is among the packages too.
 """
 import os
 import platform
@@ -11,9 +12,10 @@ from pathlib import Path
 
 ROOT = Path(__file__).resolve().parent.parent
 MACHINE = platform.machine()
-NAMES = ["bench"]
+NAME = "bench"
 PLUGIN = ROOT / "target/libcount.so"
 TARGET = "x86_64-unknown-linux-gnu"
+RUSTC = "/usr/bin/rustc"
 # Where Debian's C library for another processor stands.
 CROSS = "/usr/x86_64-linux-gnu"
 AMD64 = ROOT / "target/amd64"
@@ -43,31 +45,31 @@ def library():
         own = {"APT::Architecture": "amd64", "APT::Architectures": "amd64", "Dir::State::lists": AMD64 / "lists",
                "Dir::Cache": AMD64 / "cache"}
         options = [word for name, value in own.items() for word in ("-o", f"{name}={value}")]
-        version = run("dpkg-query", "-W", "-f", "${Version}", "rustc", capture_output=True, text=True).stdout
+        version = run("dpkg-query", "-W", "-f", "${Version}", "rustc-web", capture_output=True, text=True).stdout
         run("apt-get", *options, "update", "-qq")
-        run("apt-get", *options, "download", f"libstd-rust-dev={version}", cwd=AMD64, capture_output=True)
-        run("dpkg", "-x", next(AMD64.glob("libstd-rust-dev_*.deb")), AMD64 / "unpacked")
+        run("apt-get", *options, "download", f"libstd-rust-web-dev={version}", cwd=AMD64, capture_output=True)
+        run("dpkg", "-x", next(AMD64.glob("libstd-rust-web-dev_*.deb")), AMD64 / "unpacked")
     return found
 
 
 def build_rust():
-    """laminar's programs. Comes back with their folder and the words to build and run them by: cargo, rustc, emulator."""
+    """laminar's program. Comes back with the words to run it by."""
     laminar = Path(os.environ.get("LAMINAR", ROOT / "../shared/docs/src")).resolve()
     environment = {**os.environ, "LAMINAR": str(laminar), "CARGO_TARGET_DIR": str(ROOT / "target/oracle")}
     run(ROOT / "tests/oracle/set-up", env=environment)
-    cargo, rustc, emulator = "cargo", "rustc", ["qemu-x86_64"]
+    environment["RUSTC"] = RUSTC
+    (ROOT / "tests/oracle/Cargo.lock").unlink(missing_ok=True)
+    install(["rustc-web", "cargo-web"])
+    emulator = ["qemu-x86_64"]
     if MACHINE != "x86_64":
-        install(["rustc", "cargo", "gcc-x86-64-linux-gnu", "libc6-dev-amd64-cross"])
-        cargo, rustc, emulator = "/usr/bin/cargo", "/usr/bin/rustc", ["qemu-x86_64", "-L", CROSS]
+        install(["gcc-x86-64-linux-gnu", "libc6-dev-amd64-cross"])
+        emulator += ["-L", CROSS]
         setting = "CARGO_TARGET_" + TARGET.upper().replace("-", "_")
         environment[setting + "_LINKER"] = "x86_64-linux-gnu-gcc"
         environment[setting + "_RUSTFLAGS"] = f"--sysroot {library()}"
-        environment["RUSTC"] = rustc
-        (ROOT / "tests/oracle/Cargo.lock").unlink(missing_ok=True)
     words = ["build", "--quiet", "--offline", "--profile", "measured", "--target", TARGET]
-    bins = [word for name in NAMES for word in ("--bin", name)]
-    run(cargo, *words, *bins, cwd=ROOT / "tests/oracle", env=environment)
-    return ROOT / "target/oracle" / TARGET / "measured", rustc, emulator
+    run("/usr/bin/cargo", *words, "--bin", NAME, cwd=ROOT / "tests/oracle", env=environment)
+    return [*emulator, ROOT / "target/oracle" / TARGET / "measured" / NAME]
 
 
 class Programs:
@@ -75,15 +77,14 @@ class Programs:
 
     def __init__(self):
         install(["qemu-user", "gcc", "libc6-dev"])
-        folder, rustc, emulator = build_rust()
-        run("rt", "check", *NAMES, cwd=ROOT, stdout=subprocess.DEVNULL)
+        self.rust = build_rust()
+        run("rt", "check", NAME, cwd=ROOT, stdout=subprocess.DEVNULL)
         run("gcc", "-shared", "-fPIC", "-O2", "-o", PLUGIN, ROOT / "bench/count.c")
         kit = Path(os.environ.get("RATTLE_HOME") or Path(shutil.which("rt")).resolve().parent.parent)
         tools = kit / "on" / MACHINE / "toolchain/lib"
         loader = ["qemu-x86_64", tools / "ld-linux-x86-64.so.2", "--library-path", tools]
-        self.port = {name: [*loader, ROOT / "target/bin" / name] for name in NAMES}
-        self.rust = {name: [*emulator, folder / name] for name in NAMES}
-        self.compiler = run(rustc, "--version", capture_output=True, text=True).stdout.strip()
+        self.port = [*loader, ROOT / "target/bin" / NAME]
+        self.compiler = run(RUSTC, "--version", capture_output=True, text=True).stdout.strip()
 
 
 def between_marks(program, given):

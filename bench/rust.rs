@@ -1,29 +1,24 @@
-//! The same work as crates/bench, by laminar's own files: which call is marked and how many others are in flight (1 byte
-//! each), N (2 bytes, which laminar has no use for) and how often (4 bytes) come on standard input, high byte first.
-//! A number that depends on the work is printed.
+//! Performs a script of calls by laminar's own files, as crates/bench does: see bench/script.py. N is nothing to laminar, and a step that
+//! is one call of the port and none of laminar's does nothing. A digest of every datagram sent and every item handed out is printed.
 
 include!(concat!(env!("OUT_DIR"), "/laminar.rs"));
 
 #[path = "../tests/oracle/stand_ins/mod.rs"]
 mod stand_ins;
 
-use infrastructure::AcknowledgmentHandler;
-use packet::{OrderingGuarantee, PacketType};
-use sequence_buffer::SequenceBuffer;
+use config::Config;
+use net::VirtualConnection;
+use packet::{DeliveryGuarantee, OrderingGuarantee, PacketInfo};
 use std::io::Read;
+use std::net::{Ipv4Addr, SocketAddr};
+use std::time::Instant;
 
-// As in crates/bench/src/marks.rt.
-const NOTHING: u8 = 0;
-const IN_ORDER: u8 = 1;
-const EVERY_SECOND: u8 = 2;
-const OUTGOING: u8 = 3;
-const INCOMING_ALONE: u8 = 4;
-const INCOMING: u8 = 5;
-const NONE_LOST: u8 = 6;
-const ONE_LOST: u8 = 7;
-const IN_FLIGHT: u8 = 8;
-const FIELD: u8 = 9;
-const NO_CALL: u8 = 255;
+// As in crates/bench/src/script.rt.
+const SEND: u8 = 0;
+const SEND_ORDERED: u8 = 1;
+const RECEIVE: u8 = 2;
+const THE_CALL: u8 = 1;
+const THE_MARKS: u8 = 3;
 
 extern "C" {
     fn write(fd: i32, bytes: *const u8, count: usize) -> isize;
@@ -36,100 +31,82 @@ fn mark(on: bool) {
     }
 }
 
-/// Hides from the compiler what is referred to. `std::hint::black_box` is younger than Debian's rustc.
-fn hidden<T>(it: &T) -> &T {
-    unsafe { std::ptr::read_volatile(&it) }
+/// The sum of the bytes that went out, and the sum of those sums, which their order changes.
+#[derive(Default)]
+struct Digest {
+    sum: u32,
+    sums: u32,
 }
 
-#[derive(Clone, Default)]
-struct Received;
-
-fn inserts(often: u32, step: u16) -> u64 {
-    let mut buffer = SequenceBuffer::with_capacity(33);
-    let mut number: u16 = 0;
-    for _ in 0..often {
-        mark(true);
-        buffer.insert(number, Received);
-        let there = buffer.exists(number);
-        mark(true);
-        assert!(there);
-        number = number.wrapping_add(step);
-    }
-    u64::from(buffer.sequence_num())
-}
-
-const PAYLOAD: [u8; 64] = [7; 64];
-
-fn send(handler: &mut AcknowledgmentHandler, call: u8) {
-    mark(call == OUTGOING);
-    handler.process_outgoing(PacketType::Packet, &PAYLOAD, OrderingGuarantee::None, None);
-    mark(call == OUTGOING);
-}
-
-/// A packet comes, and acknowledges the oldest that is in flight.
-fn hear(handler: &mut AcknowledgmentHandler, call: u8, others: u16) {
-    let newest = handler.local_sequence_num().wrapping_sub(1);
-    let acked = newest.wrapping_sub(others);
-    let field = if call == INCOMING_ALONE || call == ONE_LOST { 0 } else { u32::max_value() };
-    let marked = call == INCOMING_ALONE || call == INCOMING;
-    mark(marked);
-    handler.process_incoming(newest, acked, field);
-    mark(marked);
-}
-
-/// So often a packet is sent, and one comes.
-fn turns(handler: &mut AcknowledgmentHandler, call: u8, others: u16, often: u32) {
-    for _ in 0..often {
-        send(handler, call);
-        hear(handler, call, others);
-    }
-}
-
-fn give_up(handler: &mut AcknowledgmentHandler, call: u8) {
-    let marked = call == NONE_LOST || call == ONE_LOST;
-    mark(marked);
-    let dropped = handler.dropped_packets();
-    mark(marked);
-    assert_eq!(dropped.len(), (call == ONE_LOST) as usize);
-}
-
-fn ask(handler: &AcknowledgmentHandler, call: u8) {
-    mark(call == IN_FLIGHT);
-    let count = hidden(handler).packets_in_flight();
-    mark(call == IN_FLIGHT);
-    mark(call == FIELD);
-    let field = handler.ack_bitfield();
-    mark(call == FIELD);
-    mark(call == NOTHING);
-    mark(call == NOTHING);
-    assert!(u32::from(count) < field);
-}
-
-/// A call of one kind is marked in each round, while others are in flight. A round is a turn, or one packet that is lost
-/// and 33 turns after it; then every other call.
-fn marked(call: u8, others: u16, often: u32) -> u64 {
-    let mut handler = AcknowledgmentHandler::new();
-    turns(&mut handler, NO_CALL, others, 300);
-    for _ in 0..often {
-        if call == ONE_LOST {
-            send(&mut handler, call);
+impl Digest {
+    fn add(&mut self, bytes: &[u8]) {
+        for byte in bytes {
+            self.sum = self.sum.wrapping_add(u32::from(*byte));
+            self.sums = self.sums.wrapping_add(self.sum);
         }
-        turns(&mut handler, call, others, if call == ONE_LOST { 33 } else { 1 });
-        give_up(&mut handler, call);
-        ask(&handler, call);
     }
-    assert_eq!(handler.packets_in_flight(), others);
-    u64::from(handler.local_sequence_num())
+}
+
+fn connection(f: u16, c: u16, time: Instant) -> VirtualConnection {
+    let config = Config {
+        fragment_size: f,
+        fragment_reassembly_buffer_size: c,
+        max_fragments: 16,
+        receive_buffer_max_size: usize::from(f),
+        ..Config::default()
+    };
+    VirtualConnection::new(SocketAddr::from((Ipv4Addr::LOCALHOST, 1)), &config, time)
+}
+
+/// An item is sent: all its datagrams, as the socket would be given them.
+fn send(end: &mut VirtualConnection, time: Instant, ordering: OrderingGuarantee, item: &[u8], on: bool, digest: &mut Digest) {
+    let info = PacketInfo::user_packet(item, DeliveryGuarantee::Reliable, ordering);
+    let mut datagrams = Vec::with_capacity(16);
+    mark(on);
+    for packet in end.process_outgoing(info, None, time).expect("an item is sent") {
+        datagrams.push(packet.contents());
+    }
+    mark(on);
+    datagrams.iter().for_each(|datagram| digest.add(datagram));
+}
+
+fn receive(end: &mut VirtualConnection, time: Instant, datagram: &[u8], on: bool, digest: &mut Digest) {
+    mark(on);
+    let came = end.process_incoming(datagram, time);
+    mark(on);
+    for (packet, _) in came.expect("a datagram is read") {
+        digest.add(packet.payload());
+    }
+}
+
+fn numbers<const COUNT: usize>(input: &mut impl Read) -> [u16; COUNT] {
+    [0; COUNT].map(|_| {
+        let mut bytes = [0; 2];
+        input.read_exact(&mut bytes).expect("a whole script");
+        u16::from_be_bytes(bytes)
+    })
 }
 
 fn main() {
-    let mut input = [0; 8];
-    std::io::stdin().read_exact(&mut input).expect("the call, the others, N and how often");
-    let often = u32::from_be_bytes([input[4], input[5], input[6], input[7]]);
-    let answer = match input[0] {
-        IN_ORDER => inserts(often, 1),
-        EVERY_SECOND => inserts(often, 2),
-        call => marked(call, u16::from(input[1]), often),
-    };
-    println!("{}", answer);
+    let mut input = std::io::stdin().lock();
+    let [_, f, c, steps] = numbers(&mut input);
+    let time = Instant::now();
+    let mut end = connection(f, c, time);
+    let mut digest = Digest::default();
+    for _ in 0..steps {
+        let [what, _, _, count] = numbers(&mut input);
+        let [kind, counted] = what.to_be_bytes();
+        let mut bytes = vec![0; usize::from(count)];
+        input.read_exact(&mut bytes).expect("a whole step");
+        mark(counted == THE_MARKS);
+        mark(counted == THE_MARKS);
+        let on = counted == THE_CALL;
+        match kind {
+            SEND => send(&mut end, time, OrderingGuarantee::None, &bytes, on, &mut digest),
+            SEND_ORDERED => send(&mut end, time, OrderingGuarantee::Ordered(Some(0)), &bytes, on, &mut digest),
+            RECEIVE => receive(&mut end, time, &bytes, on, &mut digest),
+            _ => (),
+        }
+    }
+    println!("{} {}", digest.sum, digest.sums);
 }

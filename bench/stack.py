@@ -26,15 +26,16 @@ def frames(program, objdump):
     return sizes, calls
 
 
-def deepest(program, objdump):
-    """The chain of calls that takes most, as pairs of a function and its frame, of all that do not start at `main`."""
+def deepest(program, objdump, own):
+    """The chain of calls that takes most, as pairs of a function and its frame, of those below the program's own functions."""
     sizes, calls = frames(program, objdump)
 
     def below(name):
         further = [below(callee) for callee in calls[name] if callee in sizes]
         return [(name, sizes[name]), *max(further, key=depth, default=[])]
 
-    return max((below(name) for name in sizes if name not in ("main", "_start")), key=depth)
+    libraries = [name for name in sizes if name not in ("main", "_start") and not name.startswith(own + "::")]
+    return max(map(below, libraries), key=depth)
 
 
 def depth(chain):
