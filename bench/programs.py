@@ -1,7 +1,7 @@
 """The two sides that bench/run measures: builds both for x86-64, and counts what they execute between their marks.
 
-The Rust is built by the newest rustc of Debian's packages, on every processor, so that its figures are the same on each: the library
-for x86-64 is among the packages too.
+The Rust is built by the newest rustc of Debian's packages on every processor, so that tables of two can be set side by side: the
+library for x86-64 is among the packages too.
 """
 import os
 import platform
