@@ -32,73 +32,63 @@ struct Run {
     ends: Ends,
 }
 
-// The storage of all objects: that of the single modules here, then that of the connections. A function that lends more
-// than a few arrays is more than the check can take.
+// The storage of all objects: that of the single modules, then that of the connections.
 fn main() {
-    let input: &mut [u8] = &mut [0u8; 196608];
-    let output: &mut [u8] = &mut [0u8; 16401];
-    let bytes: &mut [u8] = &mut [0u8; 65536];
-    let rooms: &mut [u8] = &mut [0u8; 262144];
-    let payloads: &mut [u8] = &mut [0u8; 262144];
-    with_connections(input, output, bytes, rooms, payloads);
-}
-
-fn with_connections(
-    input: &mut [u8],
-    output: &mut [u8],
-    bytes: &mut [u8],
-    rooms: &mut [u8],
-    payloads: &mut [u8],
-) {
-    let payloads0: &mut [u8] = &mut [0u8; 524288];
-    let payloads1: &mut [u8] = &mut [0u8; 524288];
-    let joined0: &mut [u8] = &mut [0u8; 262144];
-    let joined1: &mut [u8] = &mut [0u8; 262144];
-    with_logs(
-        input,
-        output,
-        bytes,
-        rooms,
-        payloads,
-        payloads0,
-        payloads1,
-        joined0,
-        joined1,
-    );
-}
-
-fn with_logs(
-    input: &mut [u8],
-    output: &mut [u8],
-    bytes: &mut [u8],
-    rooms: &mut [u8],
-    payloads: &mut [u8],
-    payloads0: &mut [u8],
-    payloads1: &mut [u8],
-    joined0: &mut [u8],
-    joined1: &mut [u8],
-) {
-    let held0: &mut [u8] = &mut [0u8; 65536];
-    let held1: &mut [u8] = &mut [0u8; 65536];
-    let log0: &mut [u8] = &mut [0u8; 266244];
-    let log1: &mut [u8] = &mut [0u8; 266244];
-    let lost: &mut [u8] = &mut [0u8; 266244];
+    let mut input = script_room();
+    let mut output = datagram_room();
+    let mut bytes = item_room();
+    let mut rooms = message_room();
+    let mut payloads = message_room();
+    let mut payloads0 = packet_room();
+    let mut payloads1 = packet_room();
+    let mut joined0 = message_room();
+    let mut joined1 = message_room();
+    let mut held0 = item_room();
+    let mut held1 = item_room();
+    let mut log0 = log_room();
+    let mut log1 = log_room();
+    let mut lost = log_room();
     replay(
-        input,
-        output,
-        bytes,
-        rooms,
-        payloads,
-        payloads0,
-        payloads1,
-        joined0,
-        joined1,
-        held0,
-        held1,
-        log0,
-        log1,
-        lost,
+        &mut input,
+        &mut output,
+        &mut bytes,
+        &mut rooms,
+        &mut payloads,
+        &mut payloads0,
+        &mut payloads1,
+        &mut joined0,
+        &mut joined1,
+        &mut held0,
+        &mut held1,
+        &mut log0,
+        &mut log1,
+        &mut lost,
     );
+}
+
+// An array is made in a function of its own: where it is lent the check then knows its length alone.
+fn script_room() -> [u8; 196608] {
+    [0u8; 196608]
+}
+
+fn datagram_room() -> [u8; 16401] {
+    [0u8; 16401]
+}
+
+fn item_room() -> [u8; 65536] {
+    [0u8; 65536]
+}
+
+fn message_room() -> [u8; 262144] {
+    [0u8; 262144]
+}
+
+fn packet_room() -> [u8; 524288] {
+    [0u8; 524288]
+}
+
+fn log_room() -> [u8; 266244] {
+    [0u8; 266244]
 }
 
 // A proved loop has to end, and nothing says that the input does: it counts its turns down, from a number that no run
