@@ -24,7 +24,7 @@ buildOf h payload output =
     (cond (ltb (length output) end) (Refused BadStorage)
     (Datagram end))
 
--- "bytes after an item stay"; a refusal leaves all unchanged
+-- a datagram is at the start of the output, whose other bytes stay; a refusal leaves all unchanged
 abbrev pub leaves : Built → List ℕ → List ℕ → List ℕ
 leaves (Datagram end) d output = d ++ drop end output
 leaves (Refused why) d output = output
@@ -38,6 +38,15 @@ numberOfBuilt (Refused why) = numberOf why
 pub record Builds (v : ℕ) (h : Headers) (payload output : List ℕ) (answer : Built) (after : List ℕ) : Type 0 where
   pub answers : answer ≡ buildOf h payload output
   pub leaves-output : after ≡ leaves (buildOf h payload output) (datagram v h payload) output
+
+-- "bytes after an item stay"
+abbrev pub over : List ℕ → List ℕ → List ℕ
+over d output = d ++ drop (length d) output
+
+-- a datagram is at the start of the output, and is so long
+pub record Writes (d output : List ℕ) (count : ℕ) (after : List ℕ) : Type 0 where
+  pub length-is : count ≡ length d
+  pub output-is : after ≡ over d output
 
 -- the output with these bytes at a place
 unfoldable pub written : ℕ → List ℕ → List ℕ → List ℕ

@@ -2,8 +2,9 @@
 ghost use mathlib.Core.Path.{_≡_};
 ghost use Prim.Native.Nat.{_+_, _≤_};
 ghost use lib.ListN.{length};
-ghost use Rattle.packet.specs.Layout.{sizeOf, part, standardBytes, fragmentBytes, ackedBytes, arrangingBytes, followingBytes, payloadAt};
-ghost use Rattle.packet.specs.Build.{Builds, written};
+ghost use Rattle.packet.specs.Table.{follows};
+ghost use Rattle.packet.specs.Layout.{sizeOf, part, standardBytes, fragmentBytes, ackedBytes, arrangingBytes, followingBytes, payloadAt, datagram};
+ghost use Rattle.packet.specs.Build.{Builds, Writes, written};
 use crate::ACKED_PACKET_HEADER;
 use crate::ARRANGING_PACKET_HEADER;
 use crate::AckedPacketHeader;
@@ -39,10 +40,27 @@ pub fn build(version: u16, headers: Headers, payload: &[u8], output: &mut [u8]) 
     if output.len() - at < payload.len() {
         return Built::Refused(Refusal::BadStorage);
     }
+    Built::Datagram(write(version, following, headers, payload, output))
+}
+
+// The same where the table was read already and nothing is to be refused, and the datagram's length. For the crates above:
+// requires what the table has for these headers, and room.
+pub fn write(
+    version: u16,
+    following: Following,
+    headers: Headers,
+    payload: &[u8],
+    output: &mut [u8],
+) -> usize
+    requires { ⌜ (following ≡ follows (headers .standard)) × (payloadAt following (headers .fragment .id) + length (now payload) ≤ length (now output)) ⌝ }
+    ensures { λ r. ⌜ Writes (datagram version headers (now (payload .entry))) (now (output .entry)) r (now (output .exit)) ⌝ }
+{
+    let standard = headers.standard;
+    let at = table::payload_at(following, headers.fragment.id);
     write_standard_header(version, standard, output);
     write_following(following, headers, output);
     bytes::copy(payload, &mut output[at..]);
-    Built::Datagram(at + payload.len())
+    at + payload.len()
 }
 
 fn write_standard_header(version: u16, standard: StandardHeader, output: &mut [u8])

@@ -1,5 +1,5 @@
 -- Which fragments a further call writes. Assumes nothing.
-use mathlib.Core.Path.{_≡_, refl, ap, _∙_}
+use mathlib.Core.Path.{_≡_, ap, _∙_}
 use mathlib.Core.Bool.{true, false}
 use mathlib.Core.List.{List, []}
 use Prim.Native.Nat.{ℕ, _+_, _*_, _≤_, _<_}
@@ -19,12 +19,11 @@ use Rattle.flight.proofs.Found.{first-at, fits-at}
 use Rattle.splitter.specs.Split.{needed, pieces}
 use Rattle.splitter.proofs.Pieces.{piece-at}
 use Rattle.packet.specs.Table.{follows}
-use Rattle.packet.specs.Read.{misfit}
 use Rattle.packet.specs.Layout.{datagram}
+use Rattle.packet.specs.Build.{Writes}
 use Rattle.packet.specs.declared.Headers.{Headers}
-use Rattle.packet.specs.declared.table.Following.the-variants.{Fragment as FragmentFirst}
-use Rattle.sending.specs.Datagrams.{Writable, Writes}
-use Rattle.sending.specs.Further.{placeFor, furtherHeaders, furtherDatagram, hasFurther, furtherOf, furtherOutput}
+use Rattle.sending.specs.Datagrams.{Room}
+use Rattle.sending.specs.Further.{placeFor, fragmentStandard, furtherHeaders, furtherDatagram, hasFurther, furtherOf, furtherOutput}
 use Rattle.sending.specs.declared.further.Further.the-variants.{Datagram, Nothing}
 use Rattle.sending.proofs.Ready.{whole}
 use Rattle.sending.proofs.Fits.{at-most, payload-at-most, take-most}
@@ -127,11 +126,9 @@ module _ (z : Sizes) (s : State) (output : List ℕ) (g : Opened z s output) (n 
 pub piece-most : (f : ℕ) (l : List ℕ) (j : ℕ) → 1 ≤ f → length (getD (pieces f l) j []) ≤ f
 piece-most f l j some = rw (piece-at f l some j) (take-most f _)
 
-pub fragment-writable : (c : Acknowledgment) (received : List ℕ) (number : PacketNumber) (f j total : ℕ) (piece output : List ℕ)
+pub fragment-room : (c : Acknowledgment) (received : List ℕ) (number : PacketNumber) (f j total : ℕ) (piece output : List ℕ)
     → 1 ≤ f
     → length piece ≤ f
     → 16 * f + 17 ≤ length output
-    → Writable (furtherHeaders c received number j total) piece output
-unfolding misfit follows
-fragment-writable c received number f j total piece output some p wide =
-    record { fits = refl; room = omega (arith, payload-at-most FragmentFirst j) }
+    → Room (furtherHeaders c received number j total) piece output
+fragment-room c received number f j total piece output some p wide = omega (arith, payload-at-most (follows fragmentStandard) j)

@@ -1,4 +1,3 @@
-pub mod Writing
 pub mod Fits
 pub mod Planned
 pub mod Ready

@@ -10,7 +10,8 @@ use Rattle.acknowledgment.specs.declared.Acknowledgment.{Acknowledgment}
 use Rattle.ends.specs.State.{State, countersOf}
 use Rattle.ends.specs.declared.End.{End}
 use Rattle.sending.specs.Plan.{planOf}
-use Rattle.sending.specs.Datagrams.{datagramFor, countOf, Writes}
+use Rattle.packet.specs.Build.{Writes}
+use Rattle.sending.specs.Datagrams.{datagramFor, countOf}
 use Rattle.sending.specs.Send.{identifiedIn, recordOf, keptBy, Keeping, Performs, transmittedOf, Sends}
 use Rattle.sending.specs.declared.Item.{Item}
 use Rattle.sending.specs.declared.Answer.the-variants.{Datagram, Refused}

@@ -34,7 +34,6 @@ module _ (z : Sizes) (s : State) (output : List ℕ) (g : Opened z s output) whe
         room = g .payloads-room;
         four-ordered = g .ordered .four;
         four-sequenced = g .four;
-        listed = a .listed;
         short = a .short;
         few = a .few;
         at-place = omega (arith, a .at-place, whole);

@@ -1,11 +1,10 @@
 -- Document 01, module 7: "as fragments, which it does exactly when it is over F; an empty one goes as an ordinary packet"; "a
 -- send writes its only one or fragment 0".
 use Prim.Native.Nat.{ℕ, _+_, _≤_}
-use mathlib.Core.Path.{_≡_}
-use mathlib.Core.Bool.{false, cond}
-use mathlib.Core.List.{List, _++_}
+use mathlib.Core.Bool.{cond}
+use mathlib.Core.List.{List}
 use lib.Dec.{ltb}
-use lib.ListN.{length, take, drop}
+use lib.ListN.{length, take}
 use Rattle.serial.specs.declared.ItemId.{ItemId}
 use Rattle.serial.specs.declared.PacketNumber.{PacketNumber}
 use Rattle.received.specs.Record.{slotsOf}
@@ -14,11 +13,12 @@ use Rattle.acknowledgment.specs.declared.Acknowledgment.{Acknowledgment}
 use Rattle.splitter.specs.Split.{needed}
 use Rattle.packet.specs.Table.{follows, hasAcked}
 use Rattle.packet.specs.Layout.{payloadAt, datagram}
-use Rattle.packet.specs.Read.{noAcked, misfit}
+use Rattle.packet.specs.Read.{noAcked}
 use Rattle.packet.specs.declared.Headers.{Headers}
 use Rattle.packet.specs.declared.StandardHeader.{StandardHeader}
 use Rattle.packet.specs.declared.AckedPacketHeader.{AckedPacketHeader}
 use Rattle.packet.specs.declared.PacketType.{PacketType}
+use Rattle.packet.specs.declared.table.Following.{Following}
 use Rattle.packet.specs.declared.PacketType.the-variants.{Packet, Fragment}
 use Rattle.sending.specs.declared.Item.{Item}
 
@@ -35,8 +35,8 @@ ackedNow number c received =
     record { number = number; acked = record { 0 = newestOf (c .received .0) }; field = fieldOf (c .received .0) (slotsOf received) }
 
 -- a datagram has it where the table says that it follows; a header that does not has 0 in every field, and is not written
-abbrev pub ackedFor : StandardHeader → ℕ → PacketNumber → Acknowledgment → List ℕ → AckedPacketHeader
-ackedFor s id number c received = cond (hasAcked (follows s) id) (ackedNow number c received) noAcked
+abbrev pub ackedFor : Following → ℕ → PacketNumber → Acknowledgment → List ℕ → AckedPacketHeader
+ackedFor f id number c received = cond (hasAcked f id) (ackedNow number c received) noAcked
 
 -- the standard header of an item's first datagram
 abbrev pub standardFor : ℕ → Item → ℕ → StandardHeader
@@ -48,7 +48,7 @@ headersFor f i id c received n =
     record {
       standard = standardFor f i n;
       fragment = record { number = c .«sequence_number»; id = 0; count = countOf f n };
-      acked = ackedFor (standardFor f i n) 0 (c .«sequence_number») c received;
+      acked = ackedFor (follows (standardFor f i n)) 0 (c .«sequence_number») c received;
       arranging = record { index = id; stream = i .stream };
     }
 
@@ -56,16 +56,6 @@ headersFor f i id c received n =
 abbrev pub datagramFor : ℕ → ℕ → Item → ItemId → Acknowledgment → List ℕ → List ℕ → List ℕ
 datagramFor v f i id c received payload = datagram v (headersFor f i id c received (length payload)) (take f payload)
 
--- "bytes after an item stay"
-abbrev pub over : List ℕ → List ℕ → List ℕ
-over d output = d ++ drop (length d) output
-
--- a datagram is at the start of the output
-pub record Writes (d output : List ℕ) (count : ℕ) (after : List ℕ) : Type 0 where
-  pub length-is : count ≡ length d
-  pub output-is : after ≡ over d output
-
--- what that requires: a listed combination, and room
-pub record Writable (h : Headers) (payload output : List ℕ) : Type 0 where
-  pub fits : misfit (h .standard) (follows (h .standard)) (length payload) ≡ false
-  pub room : payloadAt (follows (h .standard)) (h .fragment .id) + length payload ≤ length output
+-- a datagram with these headers has room in the output
+abbrev pub Room : Headers → List ℕ → List ℕ → Type 0
+Room h payload output = payloadAt (follows (h .standard)) (h .fragment .id) + length payload ≤ length output

@@ -13,14 +13,16 @@ use Rattle.flight.specs.Entry.{lengthOf, bytesAt}
 use Rattle.acknowledgment.specs.State.{tableOf, slotOf}
 use Rattle.acknowledgment.specs.declared.Acknowledgment.{Acknowledgment}
 use Rattle.splitter.specs.Split.{needed, pieces}
+use Rattle.packet.specs.Table.{follows}
 use Rattle.packet.specs.Layout.{datagram}
+use Rattle.packet.specs.Build.{over}
 use Rattle.packet.specs.Read.{noArranging}
 use Rattle.packet.specs.declared.Headers.{Headers}
 use Rattle.packet.specs.declared.StandardHeader.{StandardHeader}
 use Rattle.packet.specs.declared.PacketType.the-variants.{Fragment}
 use Rattle.packet.specs.declared.DeliveryGuarantee.the-variants.{Reliable}
 use Rattle.packet.specs.declared.OrderingGuarantee.the-variants.{None}
-use Rattle.sending.specs.Datagrams.{ackedFor, over}
+use Rattle.sending.specs.Datagrams.{ackedFor}
 use Rattle.sending.specs.declared.further.Further.{Further}
 use Rattle.sending.specs.declared.further.Further.the-variants.{Datagram, Nothing, Refused}
 
@@ -34,7 +36,7 @@ furtherHeaders c received number j total =
     record {
       standard = fragmentStandard;
       fragment = record { number = number; id = j; count = total };
-      acked = ackedFor fragmentStandard j number c received;
+      acked = ackedFor (follows fragmentStandard) j number c received;
       arranging = noArranging;
     }
 

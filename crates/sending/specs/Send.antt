@@ -30,8 +30,9 @@ use Rattle.arranging.specs.declared.sequenced.SequencingStreams.{SequencingStre
 use Rattle.arranging.specs.declared.sequenced.NewItem.{NewItem as NewSequenced}
 use Rattle.ends.specs.State.{State, countersOf, Leaves}
 use Rattle.ends.specs.declared.End.{End}
-use Rattle.sending.specs.Plan.{planOf, isListed, isLong}
-use Rattle.sending.specs.Datagrams.{datagramFor, countOf, over}
+use Rattle.sending.specs.Plan.{planOf, isLong}
+use Rattle.packet.specs.Build.{over}
+use Rattle.sending.specs.Datagrams.{datagramFor, countOf}
 use Rattle.sending.specs.declared.Item.{Item}
 use Rattle.sending.specs.declared.Identifier.{Identifier}
 use Rattle.sending.specs.declared.Identifier.the-variants.{Next, Again}
@@ -140,7 +141,6 @@ pub record SendReady (z : Sizes) (end : End) (received number records bytes : Li
   pub room : z .«packets_in_flight» * (16 * z .«fragment_size») ≤ length bytes
   pub four-ordered : end .ordering .known .made ≤ 4
   pub four-sequenced : end .sequencing .known .made ≤ 4
-  pub listed : isListed i ≡ true
   pub short : isLong (z .«fragment_size») i (length payload) ≡ false
   pub few : needed (length payload) (z .«fragment_size») ≤ z .«max_fragments»
   pub at-place : q .at < z .«packets_in_flight»

@@ -3,18 +3,20 @@ ghost use mathlib.Core.Path.{_≡_};
 ghost use Prim.Native.Nat.{_≤_, _<_};
 ghost use lib.ListN.{length, take};
 ghost use Rattle.received.specs.Record.{slotCount};
-ghost use Rattle.packet.specs.Layout.{datagram};
-ghost use Rattle.sending.specs.Datagrams.{ackedFor, typeFor, headersFor, datagramFor, countOf, Writable, Writes};
+ghost use Rattle.packet.specs.Table.{follows};
+ghost use Rattle.packet.specs.Build.{Writes};
+ghost use Rattle.sending.specs.Datagrams.{ackedFor, typeFor, standardFor, headersFor, datagramFor, countOf, Room};
 use crate::Item;
 use acknowledgment::Acknowledgment;
 use packet::AckedPacketHeader;
 use packet::ArrangingHeader;
-use packet::Built;
 use packet::FragmentHeader;
 use packet::Headers;
 use packet::PacketType;
 use packet::StandardHeader;
+use packet::builder;
 use packet::table;
+use packet::table::Following;
 use serial::ItemId;
 use serial::PacketNumber;
 
@@ -29,15 +31,17 @@ pub fn first(
     payload: &[u8],
     output: &mut [u8],
 ) -> usize
-    requires { ⌜ (slotCount ≤ length (now received)) × (1 ≤ f) × (f ≤ 1024) × (countOf f (length (now payload)) < 256) × Writable (headersFor f item id acks (now received) (length (now payload))) (take f (now payload)) (now output) ⌝ }
+    requires { ⌜ (slotCount ≤ length (now received)) × (1 ≤ f) × (f ≤ 1024) × (countOf f (length (now payload)) < 256) × Room (headersFor f item id acks (now received) (length (now payload))) (take f (now payload)) (now output) ⌝ }
     ensures { λ r. ⌜ Writes (datagramFor version f item id acks (now (received .entry)) (now (payload .entry))) (now (output .entry)) r (now (output .exit)) ⌝ }
 {
-    let headers = headers(f, item, id, acks, received, payload.len());
-    write(version, headers, first_piece(f, payload), output)
+    let following = table::headers_after(standard(f, item, payload.len()));
+    let headers = headers(following, f, item, id, acks, received, payload.len());
+    builder::write(version, following, headers, first_piece(f, payload), output)
 }
 
-// The headers of an item's first datagram. Those that do not follow are not written.
+// The headers of an item's first datagram. Those that do not follow are not written. Requires what the table has for them.
 fn headers(
+    following: Following,
     f: usize,
     item: Item,
     id: ItemId,
@@ -45,25 +49,18 @@ fn headers(
     received: &[u32],
     size: usize,
 ) -> Headers
-    requires { ⌜ (slotCount ≤ length (now received)) × (1 ≤ f) × (f ≤ 1024) × (countOf f size < 256) ⌝ }
+    requires { ⌜ (following ≡ follows (standardFor f item size)) × (slotCount ≤ length (now received)) × (1 ≤ f) × (f ≤ 1024) × (countOf f size < 256) ⌝ }
     ensures { λ r. ⌜ r ≡ headersFor f item id acks (now (received .entry)) size ⌝ }
 {
     let number = acks.sequence_number;
-    let delivery = item.delivery;
-    let ordering = item.ordering;
-    let standard = StandardHeader {
-        packet_type: packet_type(f, size),
-        delivery,
-        ordering,
-    };
     Headers {
-        standard,
+        standard: standard(f, item, size),
         fragment: FragmentHeader {
             number,
             id: 0,
             count: count(f, size) as u8,
         },
-        acked: acknowledge(standard, 0, number, acks, received),
+        acked: acknowledge(following, 0, number, acks, received),
         arranging: ArrangingHeader {
             index: id,
             stream: item.stream,
@@ -74,16 +71,16 @@ fn headers(
 // What an end tells of the packets that it has received, in a packet of its own. Where the datagram has no such header, the
 // field is not made: zeros stand for it, and are not written.
 pub fn acknowledge(
-    standard: StandardHeader,
+    following: Following,
     id: u8,
     number: PacketNumber,
     acks: Acknowledgment,
     received: &[u32],
 ) -> AckedPacketHeader
     requires { ⌜ slotCount ≤ length (now received) ⌝ }
-    ensures { λ r. ⌜ r ≡ ackedFor standard id number acks (now (received .entry)) ⌝ }
+    ensures { λ r. ⌜ r ≡ ackedFor following id number acks (now (received .entry)) ⌝ }
 {
-    if table::has_acked(table::headers_after(standard), id) {
+    if table::has_acked(following, id) {
         return AckedPacketHeader {
             number,
             acked: acks.remote_sequence_num(),
@@ -94,6 +91,18 @@ pub fn acknowledge(
         number: PacketNumber(0),
         acked: PacketNumber(0),
         field: 0,
+    }
+}
+
+fn standard(f: usize, item: Item, size: usize) -> StandardHeader
+    ensures { λ r. ⌜ r ≡ standardFor f item size ⌝ }
+{
+    let delivery = item.delivery;
+    let ordering = item.ordering;
+    StandardHeader {
+        packet_type: packet_type(f, size),
+        delivery,
+        ordering,
     }
 }
 
@@ -126,15 +135,4 @@ fn first_piece(f: usize, payload: &[u8]) -> &[u8]
         return &payload[..f];
     }
     payload
-}
-
-// A datagram at the start of the output, and its length. Requires a listed combination, and room.
-pub fn write(version: u16, headers: Headers, payload: &[u8], output: &mut [u8]) -> usize
-    requires { ⌜ Writable headers (now payload) (now output) ⌝ }
-    ensures { λ r. ⌜ Writes (datagram version headers (now (payload .entry))) (now (output .entry)) r (now (output .exit)) ⌝ }
-{
-    match packet::build(version, headers, payload, output) {
-        Built::Datagram(length) => length,
-        Built::Refused(_) => 0,
-    }
 }

@@ -8,7 +8,8 @@ ghost use Rattle.acknowledgment.specs.State.{tableOf};
 ghost use Rattle.ends.specs.State.{lending};
 ghost use Rattle.ends.specs.Gate.{gateOf};
 ghost use Rattle.received.specs.Record.{slotCount};
-ghost use Rattle.sending.specs.Further.{furtherOf, furtherOutput, furtherHeaders};
+ghost use Rattle.packet.specs.Table.{follows};
+ghost use Rattle.sending.specs.Further.{fragmentStandard, furtherOf, furtherOutput, furtherHeaders};
 use crate::datagrams;
 use acknowledgment::Acknowledgment;
 use ends::End;
@@ -19,6 +20,9 @@ use packet::Headers;
 use packet::OrderingGuarantee;
 use packet::PacketType;
 use packet::StandardHeader;
+use packet::builder;
+use packet::table;
+use packet::table::Following;
 use serial::ItemId;
 use serial::PacketNumber;
 use terms::Refusal;
@@ -72,35 +76,42 @@ pub fn fragment(
     }
     let start = at * (16 * f);
     let piece = splitter::fragment(&payloads[start..start + count], f, j);
-    let headers = headers(end.acks, received, packet, j, total);
-    Further::Datagram(datagrams::write(sizes.version, headers, piece, output))
+    let following = table::headers_after(standard());
+    let headers = headers(following, end.acks, received, packet, j, total);
+    Further::Datagram(builder::write(sizes.version, following, headers, piece, output))
 }
 
-// Only fragment 0 has the acknowledgment header, as it is at the time of the call.
+fn standard() -> StandardHeader
+    ensures { λ r. ⌜ r ≡ fragmentStandard ⌝ }
+{
+    StandardHeader {
+        packet_type: PacketType::Fragment,
+        delivery: DeliveryGuarantee::Reliable,
+        ordering: OrderingGuarantee::None,
+    }
+}
+
+// Only fragment 0 has the acknowledgment header, as it is at the time of the call. Requires what the table has for a fragment.
 fn headers(
+    following: Following,
     acks: Acknowledgment,
     received: &[u32],
     number: PacketNumber,
     j: usize,
     total: usize,
 ) -> Headers
-    requires { ⌜ (slotCount ≤ length (now received)) × (j < 256) × (total < 256) ⌝ }
+    requires { ⌜ (following ≡ follows fragmentStandard) × (slotCount ≤ length (now received)) × (j < 256) × (total < 256) ⌝ }
     ensures { λ r. ⌜ r ≡ furtherHeaders acks (now (received .entry)) number j total ⌝ }
 {
-    let standard = StandardHeader {
-        packet_type: PacketType::Fragment,
-        delivery: DeliveryGuarantee::Reliable,
-        ordering: OrderingGuarantee::None,
-    };
     let id = j as u8;
     Headers {
-        standard,
+        standard: standard(),
         fragment: FragmentHeader {
             number,
             id,
             count: total as u8,
         },
-        acked: datagrams::acknowledge(standard, id, number, acks, received),
+        acked: datagrams::acknowledge(following, id, number, acks, received),
         arranging: ArrangingHeader {
             index: ItemId(0),
             stream: 0,

@@ -2,17 +2,11 @@
 use borrow.Author.Needs.{needs}
 use Rattle.sending.proofs.datagrams.acknowledge.Statement.{statement}
 use Rattle.sending.proofs.datagrams.acknowledge.Tie as tie
-use mathlib.Core.Path.{_≡_, sym, ap, _∙_}
-use Rattle.packet.specs.Table.{follows, hasAcked}
-use Rattle.packet.specs.declared.table.Following.{Following}
+use mathlib.Core.Path.{_≡_, sym, _∙_}
+use Rattle.packet.specs.Table.{hasAcked}
 
-there : (c : tie.After-has-acked) → hasAcked (follows (c .before .before .before .args .standard)) (c .before .before .before .args .id) ≡ c .has-acked .result
-there c =
-    let a = c .before .before .before .args in
-    sym (c .has-acked .ensures ∙ ap (λ (f : Following). hasAcked f (a .id)) (c .before .headers-after .ensures))
-
-headers-after-requires : tie.Need-headers-after-requires
-headers-after-requires c κs = search needs
+there : (c : tie.After-has-acked) → hasAcked (c .before .before .args .following) (c .before .before .args .id) ≡ c .has-acked .result
+there c = sym (c .has-acked .ensures)
 
 has-acked-requires : tie.Need-has-acked-requires
 has-acked-requires c κs = search needs
@@ -33,7 +27,6 @@ pub acknowledge-spec : {M : Type 1} → statement M
 acknowledge-spec =
     tie.close
     (tie.spec
-    headers-after-requires
     has-acked-requires
     remote-sequence-num-requires
     ack-bitfield-requires

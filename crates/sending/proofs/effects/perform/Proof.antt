@@ -8,7 +8,7 @@ use lib.ListN.{length}
 use denote.Ref.{now}
 use Rattle.laws.proofs.Slots.{slot-end}
 use Rattle.terms.proofs.Ranges.{InRange, in-range-means}
-use Rattle.sending.proofs.Fits.{holds, few-datagrams, not-over, writable}
+use Rattle.sending.proofs.Fits.{holds, few-datagrams, not-over, room}
 use Rattle.sending.proofs.Performed.{performed}
 
 sizes : (c : tie.Start) → InRange (c .args .sizes)
@@ -30,7 +30,7 @@ first-requires c κs =
     let a = s .args in
     let r = s .pre in
     let f = sizes s .f in
-    (r .slots, f .0, f .1, few-datagrams (a .sizes .«fragment_size») (length (now (a .payload))) (a .sizes .«max_fragments») (sizes s .m .1) (r .few), writable (a .sizes .«fragment_size») (a .item) (c .before .before .before .before .identify .result .item) (a .end .acks) (now (a .received)) (now (a .payload)) (now (a .output)) (f .0) (r .listed) (r .short) (r .wide))
+    (r .slots, f .0, f .1, few-datagrams (a .sizes .«fragment_size») (length (now (a .payload))) (a .sizes .«max_fragments») (sizes s .m .1) (r .few), room (a .sizes .«fragment_size») (a .item) (c .before .before .before .before .identify .result .item) (a .end .acks) (now (a .received)) (now (a .payload)) (now (a .output)) (f .0) (r .wide))
 
 count-requires : tie.Need-count-requires
 count-requires c κs = sizes (c .before .before .before .before .before .before .before .before .before .before .before .before .before .before .before .before .before) .f

@@ -2,7 +2,7 @@
 use borrow.Author.Needs.{needs}
 use Rattle.sending.proofs.further.fragment.Statement.{statement}
 use Rattle.sending.proofs.further.fragment.Tie as tie
-use mathlib.Core.Path.{_≡_, sym, ap, _∙_}
+use mathlib.Core.Path.{_≡_, refl, sym, ap, _∙_}
 use Prim.Native.Nat.{ℕ, _-_, _*_, _≤_, _<_}
 use native.Mathlib.Nat.{add-sub-cancel-left}
 use native.Mathlib.Omega.{arith}
@@ -15,8 +15,10 @@ use Rattle.ends.proofs.Opened.{Opened, opened}
 use Rattle.acknowledgment.specs.State.{tableOf}
 use Rattle.flight.specs.Entry.{lengthOf, bytesAt}
 use Rattle.splitter.specs.Split.{needed, pieces}
+use Rattle.packet.specs.Table.{follows}
+use Rattle.sending.specs.Further.{fragmentStandard}
 use Rattle.sending.proofs.Ready.{whole}
-use Rattle.sending.proofs.Fragments.{none-there, none-over, none-left, written, Slot, in-slot, piece-most, fragment-writable}
+use Rattle.sending.proofs.Fragments.{none-there, none-over, none-left, written, Slot, in-slot, piece-most, fragment-room}
 
 abbrev state : tie.Start → State
 state c = lending (c .args .end) (now (c .args .received)) (now (c .args .number)) (now (c .args .records)) (now (c .args .payloads)) (now (c .args .slots)) (now (c .args .entry)) (now (c .args .header)) (now (c .args .joined)) (now (c .args .index)) (now (c .args .lengths)) (now (c .args .held))
@@ -46,6 +48,9 @@ piece-is c =
     let a = c .before .before .before .before .before .before .before .before .before .before .before .before .before .before .before .before .before .before .before .before .before .before .args in
     let start = c .before .before .before .before .before .before .before .before .find .result * (16 * a .sizes .«fragment_size») in
     c .fragment .ensures ∙ ap (λ (n : ℕ). getD (pieces (a .sizes .«fragment_size») (take n (drop start (now (a .payloads))))) (a .j) []) (add-sub-cancel-left start (c .before .before .before .before .before .payload-length .result))
+
+listing : (c : tie.After-headers-after) → c .headers-after .result ≡ follows fragmentStandard
+listing c = c .headers-after .ensures ∙ ap follows (c .before .standard .ensures)
 
 slice-aggregate-find : tie.Need-slice-aggregate-find
 slice-aggregate-find c = sym (table (c .before .before .before .before .before .before .before .before .before .before .before .before .before))
@@ -110,29 +115,35 @@ fragment-requires c κs =
     let below = c .before .if3 .left in
     (f .0, f .1, rw (add-sub-cancel-left start (c .before .before .before .before .payload-length .result), slot (c .before .before .before .before) .part) (rw (c .before .before .fragments-needed .ensures) at below))
 
+standard-requires : tie.Need-standard-requires
+standard-requires c κs = search needs
+
+headers-after-requires : tie.Need-headers-after-requires
+headers-after-requires c κs = search needs
+
 headers-requires : tie.Need-headers-requires
 headers-requires c κs =
-    let few = rw (← c .before .before .before .fragments-needed .ensures) at (slot (c .before .before .before .before .before) .few) in
-    (gate (c .before .before .before .before .before .before .before .before .before .before .before .before .before .before .before .before .before .before .before .before .before .before) .received-room, omega (arith, few, c .before .before .if3 .left), omega (arith, few))
+    let few = rw (← c .before .before .before .before .before .fragments-needed .ensures) at (slot (c .before .before .before .before .before .before .before) .few) in
+    (listing c, gate (c .before .before .before .before .before .before .before .before .before .before .before .before .before .before .before .before .before .before .before .before .before .before .before .before) .received-room, omega (arith, few, c .before .before .before .before .if3 .left), omega (arith, few))
 
 write-requires : tie.Need-write-requires
 write-requires c κs =
-    let a = c .before .before .before .before .before .before .before .before .before .before .before .before .before .before .before .before .before .before .before .before .before .before .before .before .args in
-    let g = gate (c .before .before .before .before .before .before .before .before .before .before .before .before .before .before .before .before .before .before .before .before .before .before .before .before) in
+    let a = c .before .before .before .before .before .before .before .before .before .before .before .before .before .before .before .before .before .before .before .before .before .before .before .before .before .before .args in
+    let g = gate (c .before .before .before .before .before .before .before .before .before .before .before .before .before .before .before .before .before .before .before .before .before .before .before .before .before .before) in
     let f = g .in-range .f .0 in
-    let p : length (now (c .before .before .fragment .result)) ≤ a .sizes .«fragment_size» = rw (piece-is (c .before .before)) (piece-most (a .sizes .«fragment_size») (bytesAt (16 * a .sizes .«fragment_size») (now (a .payloads)) (c .before .before .before .before .before .before .before .before .before .before .find .result) (c .before .before .before .before .before .before .before .payload-length .result)) (a .j) f) in
-    rw (c .before .headers .ensures)
-    (fragment-writable (a .end .acks) (now (a .received)) (a .packet) (a .sizes .«fragment_size») (a .j) (c .before .before .before .before .before .fragments-needed .result) (now (c .before .before .fragment .result)) (now (a .output)) f p (g .output-room))
+    let p : length (now (c .before .before .before .before .fragment .result)) ≤ a .sizes .«fragment_size» = rw (piece-is (c .before .before .before .before)) (piece-most (a .sizes .«fragment_size») (bytesAt (16 * a .sizes .«fragment_size») (now (a .payloads)) (c .before .before .before .before .before .before .before .before .before .before .before .before .find .result) (c .before .before .before .before .before .before .before .before .before .payload-length .result)) (a .j) f) in
+    rw (c .before .headers .ensures, listing (c .before .before))
+    (refl, fragment-room (a .end .acks) (now (a .received)) (a .packet) (a .sizes .«fragment_size») (a .j) (c .before .before .before .before .before .before .before .fragments-needed .result) (now (c .before .before .before .before .fragment .result)) (now (a .output)) f p (g .output-room))
 
 same-length : tie.Need-same-length
 same-length c = search needs
 
 returns-4 : tie.Need-returns-4
 returns-4 c =
-    let a = c .before .before .before .before .before .before .before .before .before .before .before .before .before .before .before .before .before .before .before .before .before .before .before .before .before .before .before .args in
+    let a = c .before .before .before .before .before .before .before .before .before .before .before .before .before .before .before .before .before .before .before .before .before .before .before .before .before .before .before .before .before .args in
     written (a .sizes) (a .end .acks) (now (a .received)) (now (a .number)) (now (a .records)) (now (a .payloads)) (a .packet .0) (a .j)
-    (c .before .before .before .before .before .before .before .before .before .before .before .before .before .find .result) (c .before .before .before .before .before .before .before .before .before .before .payload-length .result) (c .before .before .before .before .before .before .before .before .fragments-needed .result) (c .before .before .before .before .headers .result) (now (c .before .before .before .before .before .fragment .result)) (now (a .output)) _ _
-    (c .before .before .before .before .before .before .before .before .before .before .before .before .before .find .ensures) (c .before .before .before .before .before .before .before .before .before .before .payload-length .ensures) (c .before .before .before .before .before .before .before .before .fragments-needed .ensures) (c .before .before .before .before .headers .ensures) (piece-is (c .before .before .before .before .before)) (within (c .before .before .before .before .before .before .before .before .before .before .before .before)) (c .before .before .before .before .before .before .before .before .before .if2 .left) (c .before .before .before .before .before .before .before .if3 .left) (c .before .before .write .ensures)
+    (c .before .before .before .before .before .before .before .before .before .before .before .before .before .before .before .find .result) (c .before .before .before .before .before .before .before .before .before .before .before .before .payload-length .result) (c .before .before .before .before .before .before .before .before .before .before .fragments-needed .result) (c .before .before .before .before .headers .result) (now (c .before .before .before .before .before .before .before .fragment .result)) (now (a .output)) _ _
+    (c .before .before .before .before .before .before .before .before .before .before .before .before .before .before .before .find .ensures) (c .before .before .before .before .before .before .before .before .before .before .before .before .payload-length .ensures) (c .before .before .before .before .before .before .before .before .before .before .fragments-needed .ensures) (c .before .before .before .before .headers .ensures) (piece-is (c .before .before .before .before .before .before .before)) (within (c .before .before .before .before .before .before .before .before .before .before .before .before .before .before)) (c .before .before .before .before .before .before .before .before .before .before .before .if2 .left) (c .before .before .before .before .before .before .before .before .before .if3 .left) (c .before .before .write .ensures)
 
 pub fragment-spec : {M : Type 1} → statement M
 fragment-spec =
@@ -154,6 +165,8 @@ fragment-spec =
     part-fragment-start
     part-fragment-end
     fragment-requires
+    standard-requires
+    headers-after-requires
     headers-requires
     write-requires
     same-length

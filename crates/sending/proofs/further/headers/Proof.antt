@@ -5,14 +5,17 @@ use Rattle.sending.proofs.further.headers.Tie as tie
 cast-id : tie.Need-cast-id
 cast-id c = search needs
 
-cast-t11 : tie.Need-cast-t11
-cast-t11 c = search needs
+standard-requires : tie.Need-standard-requires
+standard-requires c κs = search needs
+
+cast-t9 : tie.Need-cast-t9
+cast-t9 c = search needs
 
 acknowledge-requires : tie.Need-acknowledge-requires
 acknowledge-requires c κs = search needs
 
 returns : tie.Need-returns
-returns c = rw (c .acknowledge .ensures)
+returns c = rw (c .acknowledge .ensures, c .before .standard .ensures, c .before .before .before .pre .0)
 
 pub headers-spec : {M : Type 1} → statement M
-headers-spec = tie.close (tie.spec cast-id cast-t11 acknowledge-requires returns)
+headers-spec = tie.close (tie.spec cast-id standard-requires cast-t9 acknowledge-requires returns)
