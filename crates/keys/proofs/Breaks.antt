@@ -1,6 +1,7 @@
 -- Entries that follow each other but for one place. Assumes nothing.
 --     break-le, breaks-le          each entry breaks the row at most once
 --     breaks-none, breaks-more     none at first, and one entry more
+--     grow-to, run-to              none less at a later place, and entries as far apart as their places where none is more
 --     turned-once                  no key stands twice
 use mathlib.Core.Path.{_≡_, refl, subst}
 use mathlib.Core.Bool.{false}
@@ -57,16 +58,16 @@ module _ (l : List ℕ) where
       let step = break-none (getD l (m + n) 0) (getD l (suc (m + n)) 0) (omega (arith, e, none, breaks-suc (m + n))) in
       omega (arith, step, run n m small none))
 
-  grow-to : (i j : ℕ) → i ≤ j → breaksIn l i ≤ breaksIn l j
+  pub grow-to : (i j : ℕ) → i ≤ j → breaksIn l i ≤ breaksIn l j
   grow-to i j h =
       let e : (j - i) + i ≡ j = omega arith in
       subst (λ (x : ℕ). breaksIn l i ≤ breaksIn l x) e (breaks-grow i (j - i))
 
-  run-to : (i j : ℕ) → i ≤ j → getD l i 0 < 65536 → breaksIn l j ≤ breaksIn l i → getD l j 0 ≡ (getD l i 0 + (j - i)) % 4294967296
+  pub run-to : (i j : ℕ) → i ≤ j → getD l i 0 < 4294967296 → breaksIn l j ≤ breaksIn l i → getD l j 0 ≡ (getD l i 0 + (j - i)) % 4294967296
   run-to i j h small same =
       let e : (j - i) + i ≡ j = omega arith in
       let none : breaksIn l j ≡ breaksIn l i = omega (arith, grow-to i j h) in
-      subst (λ (x : ℕ). breaksIn l x ≡ breaksIn l i → getD l x 0 ≡ (getD l i 0 + (j - i)) % 4294967296) e (run i (j - i) (omega arith)) none
+      subst (λ (x : ℕ). breaksIn l x ≡ breaksIn l i → getD l x 0 ≡ (getD l i 0 + (j - i)) % 4294967296) e (run i (j - i) small) none
 
   pub turned-once : length l ≡ 33 → breaksIn l 32 ≤ 1 → getD l 0 0 < 65536 → getD l 32 0 < getD l 0 0 → twice l ≡ false
   turned-once long few key wraps =
@@ -75,8 +76,8 @@ module _ (l : List ℕ) where
       ⊎-elim
       (λ w.
       let up = grow-to j 32 (omega arith) in
-      let low = run-to 0 i (omega arith) key (omega (arith, up)) in
+      let low = run-to 0 i (omega arith) (omega arith) (omega (arith, up)) in
       let high = run-to j 32 (omega arith) (omega arith) (omega (arith, up)) in
       omega (arith, low, high))
-      (λ w. omega (arith, run-to i j (omega arith) small w))
+      (λ w. omega (arith, run-to i j (omega arith) (omega arith) w))
       (lt-or-le (breaksIn l i) (breaksIn l j)))

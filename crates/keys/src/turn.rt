@@ -2,14 +2,16 @@
 // each is one above the entry before it, but for the place where the slots begin again.
 ghost use mathlib.Core.Path.{_≡_};
 ghost use mathlib.Core.Bool.{true, false};
+ghost use Prim.Native.Nat.{_≤_};
 ghost use lib.ListN.{length};
 ghost use Rattle.keys.specs.Keys.{twice};
-ghost use Rattle.keys.specs.Breaks.{breakAt};
+ghost use Rattle.keys.specs.Breaks.{breakAt, breaksIn};
 
-// Then no key stands twice. A `false` says nothing. Requires 33 entries.
+// Then no key stands twice, and one place at most breaks the row. A `false` says nothing. Requires 33 entries.
 pub fn is_turned(keys: &[u32]) -> bool
     requires { ⌜ length (now keys) ≡ 33 ⌝ }
     ensures { λ r. ⌜ (r ≡ true → twice (now (keys .entry)) ≡ false) ⌝ }
+    ensures { λ r. ⌜ (r ≡ true → breaksIn (now (keys .entry)) 32 ≤ 1) ⌝ }
 {
     let mut breaks: u32 = 0;
     let mut k: usize = 0;

@@ -1,5 +1,5 @@
 -- A record in which the 33 numbers up to the newest stand, none missing. Assumes nothing.
---     or-none               an OR that is 0 is one of zeros
+--     stands                where the slots follow each other but for one place, two of them tell the others
 --     heard-all             each of the 32 numbers before the newest is in the record
 --     field-full            and so each bit of the field is set
 use mathlib.Core.Path.{_≡_, refl, ap, ap₂}
@@ -8,25 +8,63 @@ use mathlib.Core.List.{List}
 use mathlib.Core.Logic.{⊎-elim}
 use Prim.Native.Nat.{ℕ, zero, suc, _+_, _-_, _/_, _%_, _^_, _≤_, _<_}
 use native.Mathlib.Omega.{arith}
-use lib.Bits.{bitOr, and-le-l, and-le-r, or-add-and}
+use lib.Dec.{ltb}
 use lib.ListN.{length, getD}
-use borrow.Author.Tests.{eq-eqb}
+use borrow.Author.Tests.{eq-eqb, ltb-true, ltb-false}
 use Rattle.laws.specs.Bits.{bitsBelow}
-use Rattle.laws.proofs.Cases.{lt-or-le}
+use Rattle.laws.proofs.Cases.{case, lt-or-le}
+use Rattle.keys.specs.Breaks.{breaksIn}
+use Rattle.keys.proofs.Breaks.{breaks-none, grow-to, run-to}
 use Rattle.serial.specs.Order.{back}
 use Rattle.received.specs.Record.{slotCount}
 use Rattle.received.specs.Field.{heard}
 use Rattle.received.proofs.Walk.{remainder}
 
-pub or-none : (a b : ℕ) → bitOr a b ≡ 0 → (a ≡ 0) × (b ≡ 0)
-or-none a b e = (
-  omega (arith, or-add-and a b, and-le-l a b, and-le-r a b),
-  omega (arith, or-add-and a b, and-le-l a b, and-le-r a b),
-)
+-- how far the slot after one is
+pub round-most : (at : ℕ) → at < slotCount → cond (ltb at 32) (at + 1) 0 < slotCount
+round-most at within =
+    case (ltb at 32) (λ e. rw e (omega (arith, ltb-true at 32 e))) (λ e. rw e (omega arith))
 
--- what `expected` says of a slot's number
+-- the number that stands in a slot: this lap's up to the newest one's slot, after it the last lap's
 abbrev pub Stands : ℕ → ℕ → ℕ → ℕ → Type 0
 Stands first at slot n = (slot ≤ at → n ≡ first + slot) × (at < slot → n + 33 ≡ first + slot)
+
+module _ (newest at : ℕ) (slots : List ℕ) (far : 33 ≤ newest) (word : newest < 65536) (few : breaksIn slots 32 ≤ 1)
+    (small : (j : ℕ) → getD slots j 0 < 4294967296) (top : getD slots at 0 ≡ newest) where
+  -- an entry from which the row goes on to the newest
+  up-to-top : (j : ℕ) → j ≤ at → at ≤ 32 → breaksIn slots at ≤ breaksIn slots j → getD slots j 0 ≡ newest - at + j
+  up-to-top j h l same = omega (arith, run-to slots j at h (small j) same, small j)
+
+  -- slot 0 comes after the newest one's
+  round : at ≡ 32 → getD slots 0 0 ≡ newest - 32 → (j : ℕ) → j < slotCount → Stands (newest - at) at j (getD slots j 0)
+  round last next j l = (
+    λ h.
+        ⊎-elim
+        (λ w. up-to-top j h (omega arith) (rw last (omega (arith, w, few))))
+        (λ w. omega (arith, run-to slots 0 j (omega arith) (small 0) (omega (arith, w, breaks-none slots))))
+        (lt-or-le 0 (breaksIn slots j)),
+    λ h. absurd (omega arith),
+  )
+
+  -- the one place that breaks the row is the newest one's
+  between : at < 32 → getD slots (at + 1) 0 ≡ newest - 32 → (j : ℕ) → j < slotCount → Stands (newest - at) at j (getD slots j 0)
+  between early next j l =
+      ⊎-elim
+      (λ w.
+      let last = grow-to slots (at + 1) 32 (omega arith) in (
+        λ h. up-to-top j h (omega arith) (omega (arith, w, last, few)),
+        λ h.
+            let end = grow-to slots j 32 (omega arith) in
+            omega (arith, run-to slots (at + 1) j (omega arith) (small (at + 1)) (omega (arith, w, end, few))),
+      ))
+      (λ w. absurd (omega (arith, run-to slots at (at + 1) (omega arith) (small at) w)))
+      (lt-or-le (breaksIn slots at) (breaksIn slots (at + 1)))
+
+  pub stands : at < slotCount → getD slots (cond (ltb at 32) (at + 1) 0) 0 ≡ newest - 32 → (j : ℕ) → j < slotCount → Stands (newest - at) at j (getD slots j 0)
+  stands within =
+      case (ltb at 32)
+      (λ e. rw e (λ next. between (ltb-true at 32 e) next))
+      (λ e. rw e (λ next. round (omega (arith, ltb-false at 32 e)) next))
 
 module _ (newest at : ℕ) (slots : List ℕ) (far : 33 ≤ newest) (word : newest < 65536) (at-is : at ≡ newest % slotCount)
     (size : length slots ≡ slotCount) (stands : (s : ℕ) → s < slotCount → Stands (newest - at) at s (getD slots s 0)) where

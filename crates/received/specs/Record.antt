@@ -1,7 +1,10 @@
 -- Document 01, module 2: the record of received packet numbers.
+use mathlib.Core.Path.{_≡_}
+use mathlib.Core.Bool.{Bool, true}
 use mathlib.Core.List.{List, _++_}
-use Prim.Native.Nat.{ℕ}
+use Prim.Native.Nat.{ℕ, _≤_}
 use lib.ListN.{take, drop}
+use Rattle.keys.specs.Breaks.{breaksIn}
 use Rattle.sequence_buffer.specs.Buffer.{insertedSlots}
 
 -- "33 slots"
@@ -15,3 +18,7 @@ slotsOf received = take slotCount received
 -- "inserts the packet number (a too old one is ignored)"; what is lent beyond the record stays
 abbrev pub recorded : ℕ → List ℕ → ℕ → List ℕ
 recorded num received n = insertedSlots num (slotsOf received) n ++ drop slotCount received
+
+-- the slots were seen to follow each other but for one place; where it is false nothing is said
+abbrev pub KnownTurned : Bool → List ℕ → Type 0
+KnownTurned turned received = turned ≡ true → breaksIn (slotsOf received) 32 ≤ 1

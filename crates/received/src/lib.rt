@@ -7,7 +7,8 @@ ghost use Prim.Native.Nat.{ℕ, _+_, _≤_, _<_};
 ghost use lib.ListN.{length};
 ghost use lib.Dec.{ltb};
 ghost use Rattle.laws.specs.Bits.{bitsBelow};
-ghost use Rattle.received.specs.Record.{slotCount, slotsOf, recorded};
+ghost use Rattle.keys.specs.Breaks.{breaksIn};
+ghost use Rattle.received.specs.Record.{slotCount, slotsOf, recorded, KnownTurned};
 ghost use Rattle.received.specs.Field.{newestOf, heard, fieldOf, Downwards, FieldFacts};
 ghost use Rattle.sequence_buffer.specs.Buffer.{inserted};
 use sequence_buffer::Inserted;
@@ -25,15 +26,18 @@ pub fn remote_sequence_num(sequence_num: PacketNumber) -> PacketNumber
     PacketNumber(serial::distance(sequence_num.0, 1))
 }
 
-// Bit i - 1 says that the newest - i is in the record. Requires the record's slots.
-pub fn ack_bitfield(sequence_num: PacketNumber, received: &[u32]) -> u32
-    requires { ⌜ slotCount ≤ length (now received) ⌝ }
+// Bit i - 1 says that the newest - i is in the record. Requires the record's slots, and that they follow each other where
+// they are said to.
+pub fn ack_bitfield(sequence_num: PacketNumber, received: &[u32], turned: bool) -> u32
+    requires { ⌜ (slotCount ≤ length (now received)) × KnownTurned turned (now received) ⌝ }
     ensures { λ r. ⌜ r ≡ fieldOf («sequence_num» .0) (slotsOf (now (received .entry))) ⌝ }
 {
     let newest = remote_sequence_num(sequence_num);
     let slots = &received[..SLOTS];
-    if is_whole(newest.0, slots) {
-        return 4294967295;
+    if turned {
+        if is_whole(newest.0, slots) {
+            return 4294967295;
+        }
     }
     let first = serial::distance(newest.0, 1);
     let at = slot(SLOTS, PacketNumber(first));
@@ -51,35 +55,30 @@ pub fn receive(sequence_num: PacketNumber, received: &mut [u32], number: PacketN
     insert(sequence_num, &mut received[..SLOTS], number)
 }
 
-// None of the 33 numbers up to the newest is missing, as is usual. The loop is never left early, so that the compiler takes
-// several slots at once. A `false` says nothing. Requires the record's slots.
+// None of the 33 numbers up to the newest is missing, as is usual: slots that follow each other but for one place are told by
+// the newest number's slot and the one after it. A `false` says nothing. Requires the record's slots, and that they so follow.
 fn is_whole(newest: u16, slots: &[u32]) -> bool
-    requires { ⌜ length (now slots) ≡ slotCount ⌝ }
+    requires { ⌜ (length (now slots) ≡ slotCount) × (breaksIn (now slots) 32 ≤ 1) ⌝ }
     ensures { λ r. ⌜ (r ≡ true → (k : ℕ) → k < 32 → heard newest (now (slots .entry)) k ≡ true) ⌝ }
 {
     if newest < 33 {
         return false;
     }
-    let at = (newest % 33) as u32;
-    let first = newest as u32 - at;
-    let mut off: u32 = 0;
-    let mut s: usize = 0;
-    while s < SLOTS {
-        off = off | (slots[s] ^ expected(first, at, s as u32));
-        s += 1;
+    let at = (newest % 33) as usize;
+    if slots[at] != newest as u32 {
+        return false;
     }
-    off == 0
+    slots[after(at)] == newest as u32 - 32
 }
 
-// The number that stands in a slot: this lap's up to the newest one's slot, after it the last lap's.
-fn expected(first: u32, at: u32, slot: u32) -> u32
-    requires { ⌜ (33 ≤ first) × (first < 65536) × (slot < slotCount) ⌝ }
-    ensures { λ r. ⌜ (slot ≤ at → r ≡ first + slot) × (at < slot → r + 33 ≡ first + slot) ⌝ }
+// The slot after it, going round.
+fn after(at: usize) -> usize
+    ensures { λ r. ⌜ r ≡ cond (ltb at 32) (at + 1) 0 ⌝ }
 {
-    if slot <= at {
-        return first + slot;
+    if at < 32 {
+        return at + 1;
     }
-    first + slot - 33
+    0
 }
 
 // The bits from one to another, where the numbers stand in slots one below the other: no number's slot needs a remainder.

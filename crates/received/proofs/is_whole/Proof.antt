@@ -1,91 +1,67 @@
--- Where the OR is 0 at the end, so it was after each slot passed, and none of them differs from what `expected` says of it.
+-- By `stands` the two slots tell all the others.
 use borrow.Author.Needs.{needs}
 use Rattle.received.proofs.is_whole.Statement.{statement}
 use Rattle.received.proofs.is_whole.Tie as tie
-use mathlib.Core.Path.{_≡_, refl, sym}
-use mathlib.Core.Bool.{true≢false}
-use Prim.Native.Nat.{ℕ, _-_, _%_, _≤_, _<_}
-use native.Mathlib.Nat.{not-suc-le-zero}
+use mathlib.Core.Path.{refl, sym, ap, _∙_}
+use Prim.Native.Nat.{ℕ, _%_, _<_}
 use native.Mathlib.Omega.{arith}
 use denote.Ref.{now}
-use lib.Bits.{bitXor}
-use lib.ListN.{getD}
-use borrow.Author.Count.{below-more}
+use lib.ListN.{length, getD}
 use borrow.Author.Tests.{eqb-true}
-use Rattle.laws.proofs.Bits.{xor-none}
-use Rattle.received.specs.Record.{slotCount}
-use Rattle.received.proofs.Whole.{Stands, or-none, heard-all}
+use Rattle.laws.proofs.Cases.{both}
+use Rattle.received.proofs.Whole.{round-most, stands, heard-all}
 
-abbrev Inv-loop : tie.InvT-loop
-Inv-loop newest slots at first off₀ s₀ off s = (s ≤ slotCount) × ((j : ℕ) → j < s → off ≡ 0 → Stands first at j (getD slots j 0))
+-- the slot after the newest one's is one of the record's
+inside : (c : tie.After-after) → c .after .result < length (now (c .before .before .before .before .before .args .slots))
+inside c = omega (arith, c .after .ensures, round-most (c .before .before .before .before .before .args .newest % 33) (omega arith), c .before .before .before .before .before .pre .0)
 
-abbrev μ-loop : tie.MeasureT-loop
-μ-loop newest slots at first off₀ s₀ off s = slotCount - s
+returns : tie.Need-returns
+returns c = λ e. both e refl
 
-returns : tie.Need-returns Inv-loop μ-loop
-returns c = λ e. absurd (true≢false (sym e))
-
-cast-at : tie.Need-cast-at Inv-loop μ-loop
+cast-at : tie.Need-cast-at
 cast-at c = search needs
 
-sub-first : tie.Need-sub-first Inv-loop μ-loop
-sub-first c = search needs
+mul-if2 : tie.Need-mul-if2
+mul-if2 c = search needs
 
-loop-holds : tie.Need-loop-holds Inv-loop μ-loop
-loop-holds c = (omega arith, λ j h. absurd (not-suc-le-zero h))
+shared-slice-read-if2 : tie.Need-shared-slice-read-if2
+shared-slice-read-if2 c = search needs
 
-mul-off : tie.Need-mul-off Inv-loop μ-loop
-mul-off c = search needs
+returns-2 : tie.Need-returns-2
+returns-2 c = λ e. both e refl
 
-shared-slice-read-off : tie.Need-shared-slice-read-off Inv-loop μ-loop
-shared-slice-read-off c = search needs
+after-requires : tie.Need-after-requires
+after-requires c κs = search needs
 
-cast-expected : tie.Need-cast-expected Inv-loop μ-loop
-cast-expected c = search needs
+mul-result : tie.Need-mul-result
+mul-result c = omega (arith, inside c)
 
-expected-requires : tie.Need-expected-requires Inv-loop μ-loop
-expected-requires c κs = search needs
+shared-slice-read-result : tie.Need-shared-slice-read-result
+shared-slice-read-result c = inside (c .before)
 
-add-s : tie.Need-add-s Inv-loop μ-loop
-add-s c = search needs
+sub-result : tie.Need-sub-result
+sub-result c = search needs
 
-loop-less : tie.Need-loop-less Inv-loop μ-loop
-loop-less c = search needs
-
-loop-again : tie.Need-loop-again Inv-loop μ-loop
-loop-again c =
-    let l = c .before .before .before .loop in
+returns-3 : tie.Need-returns-3
+returns-3 c =
+    λ e.
     let newest = c .before .before .before .before .before .before .args .newest in
     let slots = now (c .before .before .before .before .before .before .args .slots) in
-    let this = getD slots (l .s) 0 in
-    let none = or-none (l .off) (bitXor this (c .expected .result)) in (
-      omega arith,
-      below-more (λ (j : ℕ). _ → Stands (newest - newest % 33) (newest % 33) j (getD slots j 0)) (l .s)
-          (λ j h z. l .inv .1 j h (none z .0))
-          (λ z. rw (xor-none this (c .expected .result) (none z .1)) (c .expected .ensures)),
-    )
-
-returns-2 : tie.Need-returns-2 Inv-loop μ-loop
-returns-2 c =
-    λ e.
-    heard-all (c .before .before .before .before .args .newest) _ (now (c .before .before .before .before .args .slots)) (omega arith) (omega arith) refl (c .before .before .before .before .pre)
-    (λ s h. c .before .loop .inv .1 s (omega arith) (eqb-true (c .before .loop .off) 0 e))
+    let next = ap (λ (j : ℕ). getD slots j 0) (sym (c .before .after .ensures)) ∙ eqb-true _ _ e in
+    heard-all newest _ slots (omega arith) (omega arith) refl (c .before .before .before .before .before .before .pre .0)
+    (stands newest (newest % 33) slots (omega arith) (omega arith) (c .before .before .before .before .before .before .pre .1) (λ j. omega (arith, c .shared-slice-known3 .given j)) (c .before .before .if2 .left) (omega arith) next)
 
 pub is-whole-spec : {M : Type 1} → statement M
 is-whole-spec =
     tie.close
     (tie.spec
-    Inv-loop
-    μ-loop
     returns
     cast-at
-    sub-first
-    loop-holds
-    mul-off
-    shared-slice-read-off
-    cast-expected
-    expected-requires
-    add-s
-    loop-less
-    loop-again
-    returns-2)
+    mul-if2
+    shared-slice-read-if2
+    returns-2
+    after-requires
+    mul-result
+    shared-slice-read-result
+    sub-result
+    returns-3)

@@ -60,13 +60,13 @@ loop-again c =
     (omega arith, omega (arith, l .inv .1, one, breaks-more keys (l .k)))
 
 returns : tie.Need-returns Inv-loop μ-loop
-returns c = λ e. both e refl
+returns c = (λ e. both e refl, λ e. both e refl)
 
 shared-slice-read-if2 : tie.Need-shared-slice-read-if2 Inv-loop μ-loop
 shared-slice-read-if2 c = search needs
 
 returns-2 : tie.Need-returns-2 Inv-loop μ-loop
-returns-2 c = λ e. both e refl
+returns-2 c = (λ e. both e refl, λ e. both e refl)
 
 shared-slice-read-result : tie.Need-shared-slice-read-result Inv-loop μ-loop
 shared-slice-read-result c = search needs
@@ -76,12 +76,12 @@ shared-slice-read-result-2 c = search needs
 
 returns-3 : tie.Need-returns-3 Inv-loop μ-loop
 returns-3 c =
-    λ e.
     let l = c .before .before .before .before .before .before .loop in
     let s = c .before .before .before .before .before .before .before .before in
     let past : l .k ≡ 32 = omega arith in
-    let few : breaksIn (now (s .args .keys)) (l .k) ≤ 1 = omega (arith, l .inv .1) in
-    turned-once (now (s .args .keys)) (s .pre) (subst (λ (x : ℕ). breaksIn (now (s .args .keys)) x ≤ 1) past few) (omega arith) (ltb-true _ _ e)
+    let most : breaksIn (now (s .args .keys)) (l .k) ≤ 1 = omega (arith, l .inv .1) in
+    let few : breaksIn (now (s .args .keys)) 32 ≤ 1 = subst (λ (x : ℕ). breaksIn (now (s .args .keys)) x ≤ 1) past most in
+    (λ e. turned-once (now (s .args .keys)) (s .pre) few (omega arith) (ltb-true _ _ e), λ e. few)
 
 pub is-turned-spec : {M : Type 1} → statement M
 is-turned-spec =
