@@ -1,11 +1,8 @@
-// 2 and 13, which a user's call tries after 1.
+// 2, which a user's call tries after 1, and 5.
 ghost use mathlib.Core.Path.{_≡_};
 ghost use mathlib.Core.Bool.{true};
-ghost use Prim.Native.Nat.{_≤_};
-ghost use lib.ListN.{length, take};
-ghost use Rattle.received.specs.Record.{slotCount, slotsOf};
 ghost use Rattle.terms.specs.Sizes.{inRange};
-ghost use Rattle.acknowledgment.specs.Gate.{lent, flightLent, sound, tooLong};
+ghost use Rattle.acknowledgment.specs.Gate.{lent, flightLent, tooLong};
 use flight::SentPacket;
 use terms::Sizes;
 
@@ -34,21 +31,6 @@ pub fn is_flight_lent(sizes: Sizes, number: &[u32], records: &[u64]) -> bool
     ensures { λ r. ⌜ r ≡ flightLent sizes (now (number .entry)) (now (records .entry)) ⌝ }
 {
     sizes.packets_in_flight <= number.len() && sizes.packets_in_flight <= records.len()
-}
-
-// Not 13, by a walk. Requires sizes in range, and what is lent to be as long as stated.
-pub fn is_sound(sizes: Sizes, received: &[u32], number: &[u32], records: &[u64]) -> bool
-    requires { ⌜ (inRange sizes ≡ true) × (slotCount ≤ length (now received)) × (sizes .«packets_in_flight» ≤ length (now number)) × (sizes .«packets_in_flight» ≤ length (now records)) ⌝ }
-    ensures { λ r. ⌜ r ≡ sound sizes (now (received .entry)) (now (number .entry)) (now (records .entry)) ⌝ }
-{
-    if keys::has_twice(&received[..received::SLOTS]) {
-        return false;
-    }
-    flight::places::is_sound(
-        &number[..sizes.packets_in_flight],
-        records,
-        16 * sizes.fragment_size,
-    )
 }
 
 // 5: a payload to send is over 65,535 bytes, or over F and not unordered. Whatever is in flight is reliable.

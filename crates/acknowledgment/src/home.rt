@@ -1,15 +1,15 @@
 // 13 without a walk for each number: a table in use nearly always has each packet at its own place, and shows it quickly.
 ghost use mathlib.Core.Path.{_≡_};
-ghost use mathlib.Core.Bool.{true, not};
+ghost use mathlib.Core.Bool.{true, false, not};
 ghost use Prim.Native.Nat.{_≤_};
 ghost use lib.ListN.{length};
-ghost use Rattle.received.specs.Record.{slotCount, slotsOf};
+ghost use Rattle.received.specs.Record.{slotCount, slotsOf, KnownTurned};
 ghost use Rattle.keys.specs.Keys.{twice};
 ghost use Rattle.terms.specs.Sizes.{inRange};
 ghost use Rattle.flight.specs.AtHome.{AtHome};
+ghost use Rattle.flight.specs.Places.{sound as flightSound};
 ghost use Rattle.acknowledgment.specs.Gate.{sound};
 ghost use Rattle.acknowledgment.specs.State.{tableOf, slotOf};
-use crate::gate;
 use serial::PacketNumber;
 use terms::Sizes;
 
@@ -26,7 +26,16 @@ pub fn is_home(sizes: Sizes, next: PacketNumber, number: &[u32], records: &[u64]
     )
 }
 
-// Not 13, knowing whether the packets in flight are at home. Requires what `gate::is_sound` does.
+// The slots of the received record follow each other but for one place. A `false` says nothing. Requires the record's slots.
+pub fn is_turned(received: &[u32]) -> bool
+    requires { ⌜ slotCount ≤ length (now received) ⌝ }
+    ensures { λ r. ⌜ KnownTurned r (now (received .entry)) ⌝ }
+    ensures { λ r. ⌜ (r ≡ true → twice (slotsOf (now (received .entry))) ≡ false) ⌝ }
+{
+    keys::turn::is_turned(&received[..received::SLOTS])
+}
+
+// Not 13, knowing whether the packets in flight are at home. Requires sizes in range, and what is lent to be as long as stated.
 pub fn is_sound(
     sizes: Sizes,
     received: &[u32],
@@ -37,20 +46,35 @@ pub fn is_sound(
     requires { ⌜ (inRange sizes ≡ true) × (slotCount ≤ length (now received)) × (sizes .«packets_in_flight» ≤ length (now number)) × (sizes .«packets_in_flight» ≤ length (now records)) × («at_home» ≡ true → AtHome (slotOf sizes) (tableOf sizes (now number)) (now records)) ⌝ }
     ensures { λ r. ⌜ r ≡ sound sizes (now (received .entry)) (now (number .entry)) (now (records .entry)) ⌝ }
 {
-    if at_home {
-        return is_record_sound(received);
+    let turned = is_turned(received);
+    if !is_record_sound(received, turned) {
+        return false;
     }
-    gate::is_sound(sizes, received, number, records)
+    is_flight_sound(sizes, number, records, at_home)
 }
 
-// No received number stands twice. Where none of the last 33 is missing, that is seen quickly. Requires the record's slots.
-fn is_record_sound(received: &[u32]) -> bool
-    requires { ⌜ slotCount ≤ length (now received) ⌝ }
+// No received number stands twice. Where the slots were seen to follow each other, that is known. Requires the record's slots.
+pub fn is_record_sound(received: &[u32], turned: bool) -> bool
+    requires { ⌜ (slotCount ≤ length (now received)) × (turned ≡ true → twice (slotsOf (now received)) ≡ false) ⌝ }
     ensures { λ r. ⌜ r ≡ not (twice (slotsOf (now (received .entry)))) ⌝ }
 {
-    let slots = &received[..received::SLOTS];
-    if keys::turn::is_turned(slots) {
+    if turned {
         return true;
     }
-    !keys::has_twice(slots)
+    !keys::has_twice(&received[..received::SLOTS])
+}
+
+// Not 13 of the packets in flight, which holds at home. Requires sizes in range, and columns as long as stated.
+pub fn is_flight_sound(sizes: Sizes, number: &[u32], records: &[u64], at_home: bool) -> bool
+    requires { ⌜ (inRange sizes ≡ true) × (sizes .«packets_in_flight» ≤ length (now number)) × (sizes .«packets_in_flight» ≤ length (now records)) × («at_home» ≡ true → AtHome (slotOf sizes) (tableOf sizes (now number)) (now records)) ⌝ }
+    ensures { λ r. ⌜ r ≡ flightSound (slotOf sizes) (tableOf sizes (now (number .entry))) (now (records .entry)) ⌝ }
+{
+    if at_home {
+        return true;
+    }
+    flight::places::is_sound(
+        &number[..sizes.packets_in_flight],
+        records,
+        16 * sizes.fragment_size,
+    )
 }

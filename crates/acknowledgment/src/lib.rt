@@ -230,8 +230,9 @@ pub fn ack_bitfield(sizes: Sizes, state: Acknowledgment, received: &[u32]) -> Ac
     if received.len() < received::SLOTS {
         return AckBitfield::Refused(Refusal::BadStorage);
     }
-    if keys::has_twice(&received[..received::SLOTS]) {
+    let turned = home::is_turned(received);
+    if !home::is_record_sound(received, turned) {
         return AckBitfield::Refused(Refusal::BadState);
     }
-    AckBitfield::Field(received::ack_bitfield(state.received, received))
+    AckBitfield::Field(received::ack_bitfield(state.received, received, turned))
 }

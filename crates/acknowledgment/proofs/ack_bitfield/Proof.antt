@@ -2,15 +2,14 @@
 use borrow.Author.Needs.{needs}
 use Rattle.acknowledgment.proofs.ack_bitfield.Statement.{statement}
 use Rattle.acknowledgment.proofs.ack_bitfield.Tie as tie
-use mathlib.Core.Path.{_≡_, refl, sym, _∙_}
-use mathlib.Core.Bool.{true, false}
-use native.Mathlib.Omega.{arith}
-use lib.Seq.{length-take-le}
+use mathlib.Core.Path.{_≡_, sym, _∙_}
+use mathlib.Core.Bool.{true, false, not}
 use denote.Ref.{now}
 use Rattle.laws.proofs.Cases.{on, off}
+use Rattle.keys.specs.Keys.{twice}
 use Rattle.terms.specs.Sizes.{inRange}
 use borrow.Author.Tests.{le-leb, lt-leb}
-use Rattle.received.specs.Record.{slotCount, slotsOf}
+use Rattle.received.specs.Record.{slotsOf}
 use Rattle.received.specs.Field.{fieldOf}
 use Rattle.acknowledgment.specs.Questions.{toldOf}
 use Rattle.acknowledgment.specs.declared.AckBitfield.the-variants.{Field, Refused as NotTold}
@@ -18,6 +17,10 @@ use Rattle.acknowledgment.proofs.Gates.{unsound}
 
 in-range : (c : tie.Else1) → inRange (c .before .before .before .args .sizes) ≡ true
 in-range c = sym (c .before .in-range .ensures) ∙ on (c .before .in-range .result) (c .if1 .left)
+
+-- whether 13 is told is whether a number is there twice
+judged : (c : tie.After-is-record-sound) → c .is-record-sound .result ≡ not (twice (slotsOf (now (c .before .before .before .before .before .before .args .received))))
+judged c = c .is-record-sound .ensures
 
 -- the field is that of the received record
 told : (c : tie.After-ack-bitfield) → c .ack-bitfield .result ≡ fieldOf (c .before .before .before .before .before .before .before .before .args .state .received .0) (slotsOf (now (c .before .before .before .before .before .before .before .before .args .received)))
@@ -36,22 +39,22 @@ returns-2 : tie.Need-returns-2
 unfolding toldOf
 returns-2 c = rw (in-range (c .before), lt-leb _ _ (c .if2 .taken))
 
-slice-aggregate-has-twice : tie.Need-slice-aggregate-has-twice
-slice-aggregate-has-twice c = omega (arith, length-take-le slotCount (now (c .before .before .before .before .before .args .received)) (c .before .if2 .left))
+is-turned-requires : tie.Need-is-turned-requires
+is-turned-requires c κs = search needs
 
-has-twice-requires : tie.Need-has-twice-requires
-has-twice-requires c κs = search needs
+is-record-sound-requires : tie.Need-is-record-sound-requires
+is-record-sound-requires c κs = search needs
 
 returns-3 : tie.Need-returns-3
 unfolding toldOf
-returns-3 c = rw (le-leb _ _ (c .before .before .before .if2 .left), ← c .before .has-twice .ensures, c .if3 .taken) (sym (unsound _ NotTold (Field 0) (in-range (c .before .before .before .before))))
+returns-3 c = rw (le-leb _ _ (c .before .before .before .if2 .left), sym (judged (c .before)) ∙ off (c .before .is-record-sound .result) (c .if3 .taken)) (sym (unsound _ NotTold (Field 0) (in-range (c .before .before .before .before))))
 
 ack-bitfield-requires : tie.Need-ack-bitfield-requires
-ack-bitfield-requires c κs = search needs
+ack-bitfield-requires c κs = (c .before .before .before .if2 .left, c .before .before .is-turned .ensures .0)
 
 returns-4 : tie.Need-returns-4
 unfolding toldOf
-returns-4 c = rw (in-range (c .before .before .before .before .before), le-leb _ _ (c .before .before .before .before .if2 .left), ← c .before .before .has-twice .ensures, c .before .if3 .left, told c)
+returns-4 c = rw (in-range (c .before .before .before .before .before), le-leb _ _ (c .before .before .before .before .if2 .left), sym (judged (c .before .before)) ∙ on (c .before .before .is-record-sound .result) (c .before .if3 .left), told c)
 
 pub ack-bitfield-spec : {M : Type 1} → statement M
 ack-bitfield-spec =
@@ -60,8 +63,8 @@ ack-bitfield-spec =
     in-range-requires
     returns
     returns-2
-    slice-aggregate-has-twice
-    has-twice-requires
+    is-turned-requires
+    is-record-sound-requires
     returns-3
     ack-bitfield-requires
     returns-4)

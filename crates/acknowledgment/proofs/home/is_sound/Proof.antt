@@ -1,28 +1,34 @@
--- Where the table is at home the rest of 13 is what is received.
+-- The two tests are the two halves of `sound`.
 use borrow.Author.Needs.{needs}
 use Rattle.acknowledgment.proofs.home.is_sound.Statement.{statement}
 use Rattle.acknowledgment.proofs.home.is_sound.Tie as tie
-use mathlib.Core.Path.{_≡_, refl, _∙_}
-use mathlib.Core.Bool.{Bool, true, false, _&&_}
-use Rattle.flight.proofs.Homes.{home-sound}
+use mathlib.Core.Path.{sym, _∙_}
+use Rattle.laws.proofs.Cases.{on, off}
 use Rattle.acknowledgment.specs.Gate.{sound}
 
-and-yes : (b : Bool) → b ≡ (b && true)
-and-yes true = refl
-and-yes false = refl
+is-turned-requires : tie.Need-is-turned-requires
+is-turned-requires c κs = search needs
 
 is-record-sound-requires : tie.Need-is-record-sound-requires
 is-record-sound-requires c κs = search needs
 
 returns : tie.Need-returns
 unfolding sound
-returns c = rw (home-sound _ _ _ (c .before .before .before .before .before .pre .4 (c .before .if1 .taken))) (c .is-record-sound .ensures ∙ and-yes _)
+returns c = rw (sym (c .before .is-record-sound .ensures) ∙ off (c .before .is-record-sound .result) (c .if1 .taken))
 
-is-sound-requires : tie.Need-is-sound-requires
-is-sound-requires c κs = search needs
+is-flight-sound-requires : tie.Need-is-flight-sound-requires
+is-flight-sound-requires c κs = search needs
 
 returns-2 : tie.Need-returns-2
-returns-2 c = search needs
+unfolding sound
+returns-2 c = rw (sym (c .before .before .is-record-sound .ensures) ∙ on (c .before .before .is-record-sound .result) (c .before .if1 .left)) (c .is-flight-sound .ensures)
 
 pub is-sound-spec : {M : Type 1} → statement M
-is-sound-spec = tie.close (tie.spec is-record-sound-requires returns is-sound-requires returns-2)
+is-sound-spec =
+    tie.close
+    (tie.spec
+    is-turned-requires
+    is-record-sound-requires
+    returns
+    is-flight-sound-requires
+    returns-2)
