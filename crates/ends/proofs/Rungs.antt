@@ -1,10 +1,14 @@
 -- 2 and 13 module by module, in the code's order: each rung says what the whole is. Assumes nothing.
-use mathlib.Core.Path.{_≡_, refl}
+use mathlib.Core.Path.{_≡_, refl, _∙_}
 use mathlib.Core.List.{List, []}
-use mathlib.Core.Bool.{Bool, true, false, not}
+use mathlib.Core.Bool.{Bool, true, false, not, _&&_}
 use Prim.Native.Nat.{ℕ}
 use lib.ListN.{take}
+use Rattle.keys.specs.Keys.{twice}
 use Rattle.terms.specs.declared.Sizes.{Sizes}
+use Rattle.received.specs.Record.{slotsOf}
+use Rattle.flight.specs.Places.{sound as flightSound}
+use Rattle.acknowledgment.specs.State.{tableOf, slotOf}
 use Rattle.acknowledgment.specs.Gate.{lent, sound as acksSound}
 use Rattle.reassembly.specs.Gate.{tooShort as partsTooShort, sound as partsSound}
 use Rattle.arranging.specs.Ids.{soundIds}
@@ -41,6 +45,23 @@ module _ (z : Sizes) (s : State) (output : List ℕ) where
   unfolding isLent
   no-counters = refl
 
+none-twice : not (twice (slotsOf [])) ≡ true
+unfolding twice
+none-twice = refl
+
+-- where nothing is received, what is in flight is all
+pub none-received : (z : Sizes) (number records : List ℕ) → acksSound z [] number records ≡ flightSound (slotOf z) (tableOf z number) records
+unfolding acksSound
+none-received z number records = rw none-twice
+
+regroup : (a b c : Bool) → (a && b) && c ≡ a && (b && c)
+regroup true b c = refl
+regroup false b c = refl
+
+and-no : (a : Bool) → a && false ≡ false
+and-no true = refl
+and-no false = refl
+
 module _ (z : Sizes) (s : State) where
   abbrev AcksSound : Bool
   AcksSound = acksSound z (s .acks .received) (s .acks .number) (s .acks .records)
@@ -67,8 +88,22 @@ module _ (z : Sizes) (s : State) where
   unfolding isSound
   sound-sequenced a b d = rw (a, b, d)
 
-  -- 13 is about no bytes, nor about the headers beside messages
-  pub no-bytes : isSound z s
-      ≡ isSound z (lending (countersOf s) (s .acks .received) (s .acks .number) (s .acks .records) [] (s .parts .slots) (s .parts .entry) [] [] (s .ordered .index) (s .ordered .lengths) [])
-  unfolding isSound
-  no-bytes = refl
+  -- 13 is about no bytes, nor about the headers beside messages; its rule for the received record stands by itself
+  abbrev pub RecordSound : Bool
+  RecordSound = not (twice (slotsOf (s .acks .received)))
+
+  abbrev pub RestSound : Bool
+  RestSound = isSound z (lending (countersOf s) [] (s .acks .number) (s .acks .records) [] (s .parts .slots) (s .parts .entry) [] [] (s .ordered .index) (s .ordered .lengths) [])
+
+  record-apart : isSound z s ≡ RecordSound && RestSound
+  unfolding isSound acksSound
+  record-apart = rw none-twice (regroup RecordSound _ _)
+
+  pub rest-unsound : RestSound ≡ false → isSound z s ≡ false
+  rest-unsound b = record-apart ∙ rw b (and-no RecordSound)
+
+  pub record-unsound : RecordSound ≡ false → isSound z s ≡ false
+  record-unsound a = record-apart ∙ rw a
+
+  pub both-sound : RecordSound ≡ true → RestSound ≡ true → isSound z s ≡ true
+  both-sound a b = record-apart ∙ rw (a, b)

@@ -4,9 +4,9 @@ ghost use mathlib.Core.Bool.{true, false};
 ghost use mathlib.Core.List.{[]};
 ghost use Prim.Native.Nat.{_≤_};
 ghost use lib.ListN.{length};
-ghost use Rattle.received.specs.Record.{slotCount};
+ghost use Rattle.received.specs.Record.{KnownTurned};
 ghost use Rattle.terms.specs.Sizes.{inRange};
-ghost use Rattle.terms.specs.declared.Gate.the-variants.{Shut};
+ghost use Rattle.terms.specs.declared.Gate.the-variants.{Open, Shut};
 ghost use Rattle.flight.specs.AtHome.{AtHome, KnownHome};
 ghost use Rattle.acknowledgment.specs.State.{tableOf, slotOf};
 ghost use Rattle.ends.specs.State.{lending, freshEnd};
@@ -53,13 +53,16 @@ pub fn check(
     checked.gate
 }
 
-// What the gate says, and whether each packet in flight was seen at its own place, where a `false` says nothing.
+// What the gate says, and two things that it may have seen, where a `false` says nothing: each packet in flight at its own
+// place, and the slots of the received record following each other but for one place.
 pub struct Checked {
     pub gate: Gate,
     pub home: bool,
+    pub turned: bool,
 }
 
-// The same, with what it has seen on the way: a number in flight is then found without a walk.
+// The same, with what it has seen on the way: a number in flight is then found without a walk, and the field mostly made
+// without one. The record is judged last, which is quicker than between the tables.
 pub fn look(
     sizes: Sizes,
     end: End,
@@ -78,6 +81,7 @@ pub fn look(
 ) -> Checked
     ensures { λ r. ⌜ r .gate ≡ gateOf sizes (lending end (now (received .entry)) (now (number .entry)) (now (records .entry)) (now (payloads .entry)) (now (slots .entry)) (now (entry .entry)) (now (header .entry)) (now (joined .entry)) (now (index .entry)) (now (lengths .entry)) (now (held .entry))) (now (output .entry)) ⌝ }
     ensures { λ r. ⌜ KnownHome (r .home) (tableOf sizes (now (number .entry))) ⌝ }
+    ensures { λ r. ⌜ KnownTurned (r .turned) (now (received .entry)) ⌝ }
 {
     if !sizes.in_range() {
         return shut(Refusal::BadSizes);
@@ -103,7 +107,6 @@ pub fn look(
     if !is_sound(
         sizes,
         end,
-        received,
         number,
         records,
         slots,
@@ -114,18 +117,30 @@ pub fn look(
     ) {
         return shut(Refusal::BadState);
     }
+    let turned = acknowledgment::home::is_turned(received);
+    if !acknowledgment::home::is_record_sound(received, turned) {
+        return shut(Refusal::BadState);
+    }
+    open(home, turned)
+}
+
+fn open(home: bool, turned: bool) -> Checked
+    ensures { λ r. ⌜ r ≡ record { gate = Open; home = home; turned = turned } ⌝ }
+{
     Checked {
         gate: Gate::Open,
         home,
+        turned,
     }
 }
 
 fn shut(why: Refusal) -> Checked
-    ensures { λ r. ⌜ r ≡ record { gate = Shut why; home = false } ⌝ }
+    ensures { λ r. ⌜ r ≡ record { gate = Shut why; home = false; turned = false } ⌝ }
 {
     Checked {
         gate: Gate::Shut(why),
         home: false,
+        turned: false,
     }
 }
 
@@ -169,12 +184,11 @@ pub fn is_lent(
     !arranging::gate::too_short(f, index, lengths, held, output)
 }
 
-// No table breaks a rule of 13, which is about no bytes. Requires sizes in range, each table to be as long
-// as stated, and packets at home where they are said to be.
+// No table but the received record breaks a rule of 13, which is about no bytes. Requires sizes in range, each table to be
+// as long as stated, and packets at home where they are said to be.
 fn is_sound(
     sizes: Sizes,
     end: End,
-    received: &[u32],
     number: &[u32],
     records: &[u64],
     slots: &[u32],
@@ -183,10 +197,10 @@ fn is_sound(
     lengths: &[u16],
     home: bool,
 ) -> bool
-    requires { ⌜ (inRange sizes ≡ true) × (slotCount ≤ length (now received)) × (sizes .«packets_in_flight» ≤ length (now number)) × (sizes .«packets_in_flight» ≤ length (now records)) × (sizes .«reassembly_slots» ≤ length (now slots)) × (sizes .«reassembly_slots» ≤ length (now entry)) × (256 ≤ length (now index)) × (256 ≤ length (now lengths)) × (home ≡ true → AtHome (slotOf sizes) (tableOf sizes (now number)) (now records)) ⌝ }
-    ensures { λ r. ⌜ r ≡ isSound sizes (lending end (now (received .entry)) (now (number .entry)) (now (records .entry)) [] (now (slots .entry)) (now (entry .entry)) [] [] (now (index .entry)) (now (lengths .entry)) []) ⌝ }
+    requires { ⌜ (inRange sizes ≡ true) × (sizes .«packets_in_flight» ≤ length (now number)) × (sizes .«packets_in_flight» ≤ length (now records)) × (sizes .«reassembly_slots» ≤ length (now slots)) × (sizes .«reassembly_slots» ≤ length (now entry)) × (256 ≤ length (now index)) × (256 ≤ length (now lengths)) × (home ≡ true → AtHome (slotOf sizes) (tableOf sizes (now number)) (now records)) ⌝ }
+    ensures { λ r. ⌜ r ≡ isSound sizes (lending end [] (now (number .entry)) (now (records .entry)) [] (now (slots .entry)) (now (entry .entry)) [] [] (now (index .entry)) (now (lengths .entry)) []) ⌝ }
 {
-    if !acknowledgment::home::is_sound(sizes, received, number, records, home) {
+    if !acknowledgment::home::is_flight_sound(sizes, number, records, home) {
         return false;
     }
     let f = sizes.fragment_size;
