@@ -82,6 +82,7 @@ pub fn send(
         payload,
         output,
         checked.home,
+        checked.turned,
     )
 }
 
@@ -148,6 +149,7 @@ pub fn resend(
         payload,
         output,
         checked.home,
+        checked.turned,
     )
 }
 
@@ -243,5 +245,6 @@ pub fn fragment(
         j,
         output,
         checked.home,
+        checked.turned,
     )
 }

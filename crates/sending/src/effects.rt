@@ -2,6 +2,7 @@
 ghost use mathlib.Core.Path.{_≡_};
 ghost use Prim.Native.Nat.{_+_, _*_, _≤_, _<_};
 ghost use lib.ListN.{length};
+ghost use Rattle.received.specs.Record.{KnownTurned};
 ghost use Rattle.sending.specs.Send.{identifiedOf, sequencedAs, orderedAs, keptBy, Keeping, recordOf, SendReady, Performs};
 use crate::Answer;
 use crate::Identifier;
@@ -28,7 +29,7 @@ pub struct Identified {
     pub sequencing: SequencingStreams,
 }
 
-// Requires an end that the gate lets through, and a plan that refuses nothing.
+// Requires an end that the gate lets through, what is said of its record, and a plan that refuses nothing.
 pub fn perform(
     sizes: Sizes,
     end: End,
@@ -40,8 +41,9 @@ pub fn perform(
     sending: Sending,
     payload: &[u8],
     output: &mut [u8],
+    turned: bool,
 ) -> Sent
-    requires { ⌜ SendReady sizes end (now received) (now number) (now records) (now payloads) item sending (now payload) (now output) ⌝ }
+    requires { ⌜ SendReady sizes end (now received) (now number) (now records) (now payloads) item sending (now payload) (now output) × KnownTurned turned (now received) ⌝ }
     ensures { λ r. ⌜ Performs sizes end (now (received .entry)) (now (number .entry)) (now (records .entry)) (now (payloads .entry)) item sending (now (payload .entry)) (now (output .entry)) r (now (number .exit)) (now (records .exit)) (now (payloads .exit)) (now (output .exit)) ⌝ }
 {
     let f = sizes.fragment_size;
@@ -53,7 +55,17 @@ pub fn perform(
     let id = identified.item;
     let ordering = identified.ordering;
     let sequencing = identified.sequencing;
-    let length = datagrams::first(sizes.version, f, item, id, acks, received, payload, output);
+    let length = datagrams::first(
+        sizes.version,
+        f,
+        item,
+        id,
+        acks,
+        received,
+        payload,
+        output,
+        turned,
+    );
     let datagrams = datagrams::count(f, payload.len());
     let acks = keep(item, id, acks, f, at, number, records, payloads, payload);
     Sent {

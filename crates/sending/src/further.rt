@@ -7,7 +7,7 @@ ghost use Rattle.flight.specs.AtHome.{KnownHome};
 ghost use Rattle.acknowledgment.specs.State.{tableOf};
 ghost use Rattle.ends.specs.State.{lending};
 ghost use Rattle.ends.specs.Gate.{gateOf};
-ghost use Rattle.received.specs.Record.{slotCount};
+ghost use Rattle.received.specs.Record.{slotCount, KnownTurned};
 ghost use Rattle.packet.specs.Table.{follows};
 ghost use Rattle.sending.specs.Further.{fragmentStandard, furtherOf, furtherOutput, furtherHeaders};
 use crate::datagrams;
@@ -36,7 +36,7 @@ pub enum Further {
 }
 
 // Fragment j of a packet in flight whose payload is over F. For the crates above: requires an end that the gate lets through,
-// with packets in flight at home where they are said to be.
+// and what is said of it, as `transmit` does.
 pub fn fragment(
     sizes: Sizes,
     end: End,
@@ -55,8 +55,9 @@ pub fn fragment(
     j: usize,
     output: &mut [u8],
     home: bool,
+    turned: bool,
 ) -> Further
-    requires { ⌜ (gateOf sizes (lending end (now received) (now number) (now records) (now payloads) (now slots) (now entry) (now header) (now joined) (now index) (now lengths) (now held)) (now output) ≡ Open) × KnownHome home (tableOf sizes (now number)) ⌝ }
+    requires { ⌜ (gateOf sizes (lending end (now received) (now number) (now records) (now payloads) (now slots) (now entry) (now header) (now joined) (now index) (now lengths) (now held)) (now output) ≡ Open) × KnownHome home (tableOf sizes (now number)) × KnownTurned turned (now received) ⌝ }
     ensures { λ r. ⌜ r ≡ furtherOf sizes (end .acks) (now (received .entry)) (now (number .entry)) (now (records .entry)) (now (payloads .entry)) (packet .0) j ⌝ }
     ensures { λ _. ⌜ now (output .exit) ≡ furtherOutput sizes (end .acks) (now (received .entry)) (now (number .entry)) (now (records .entry)) (now (payloads .entry)) (packet .0) j (now (output .entry)) ⌝ }
 {
@@ -77,7 +78,7 @@ pub fn fragment(
     let start = at * (16 * f);
     let piece = splitter::fragment(&payloads[start..start + count], f, j);
     let following = table::headers_after(standard());
-    let headers = headers(following, end.acks, received, packet, j, total);
+    let headers = headers(following, end.acks, received, packet, j, total, turned);
     Further::Datagram(builder::write(sizes.version, following, headers, piece, output))
 }
 
@@ -99,8 +100,9 @@ fn headers(
     number: PacketNumber,
     j: usize,
     total: usize,
+    turned: bool,
 ) -> Headers
-    requires { ⌜ (following ≡ follows fragmentStandard) × (slotCount ≤ length (now received)) × (j < 256) × (total < 256) ⌝ }
+    requires { ⌜ (following ≡ follows fragmentStandard) × (slotCount ≤ length (now received)) × (j < 256) × (total < 256) × KnownTurned turned (now received) ⌝ }
     ensures { λ r. ⌜ r ≡ furtherHeaders acks (now (received .entry)) number j total ⌝ }
 {
     let id = j as u8;
@@ -111,7 +113,7 @@ fn headers(
             id,
             count: total as u8,
         },
-        acked: datagrams::acknowledge(following, id, number, acks, received),
+        acked: datagrams::acknowledge(following, id, number, acks, received, turned),
         arranging: ArrangingHeader {
             index: ItemId(0),
             stream: 0,

@@ -53,7 +53,7 @@ enum-known-plan-2 c = search needs
 perform-requires : tie.Need-perform-requires
 perform-requires c κs =
     let s = c .before .before .before .before .before .before .before .before .before .before .before .before .before .before .before .before .before .before .before .before .before .before in
-    ready (s .args .sizes) (state s) (now (s .args .output)) (gate s) (s .args .item) _ (now (s .args .payload)) (goes (c .before .before .before .before))
+    (ready (s .args .sizes) (state s) (now (s .args .output)) (gate s) (s .args .item) _ (now (s .args .payload)) (goes (c .before .before .before .before)), s .pre .2)
 
 same-length : tie.Need-same-length
 same-length c = search needs

@@ -36,7 +36,7 @@ enum-told : tie.Need-enum-told
 enum-told c = search needs
 
 fragment-requires : tie.Need-fragment-requires
-fragment-requires c κs = (is-open (c .before), c .before .before .before .look .ensures .1)
+fragment-requires c κs = (is-open (c .before), c .before .before .before .look .ensures .1 .0, c .before .before .before .look .ensures .1 .1)
 
 same-length-2 : tie.Need-same-length-2
 same-length-2 c = search needs

@@ -75,7 +75,7 @@ item-again-requires : tie.Need-item-again-requires
 item-again-requires c κs = search needs
 
 transmit-requires : tie.Need-transmit-requires
-transmit-requires c κs = (is-open (c .before .before .before .before .before .before .before), c .before .before .before .before .before .before .before .before .before .look .ensures .1)
+transmit-requires c κs = (is-open (c .before .before .before .before .before .before .before), c .before .before .before .before .before .before .before .before .before .look .ensures .1 .0, c .before .before .before .before .before .before .before .before .before .look .ensures .1 .1)
 
 same-length-9 : tie.Need-same-length-9
 same-length-9 c = search needs

@@ -54,7 +54,7 @@ item-next-requires : tie.Need-item-next-requires
 item-next-requires c κs = search needs
 
 transmit-requires : tie.Need-transmit-requires
-transmit-requires c κs = (is-open (c .before .before .before .before .before), c .before .before .before .before .before .before .before .look .ensures .1)
+transmit-requires c κs = (is-open (c .before .before .before .before .before), c .before .before .before .before .before .before .before .look .ensures .1 .0, c .before .before .before .before .before .before .before .look .ensures .1 .1)
 
 same-length-5 : tie.Need-same-length-5
 same-length-5 c = search needs

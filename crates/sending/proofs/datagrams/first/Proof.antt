@@ -20,7 +20,7 @@ headers-after-requires c κs = search needs
 headers-requires : tie.Need-headers-requires
 headers-requires c κs =
     let p = c .before .before .before .before .before .pre in
-    (listing c, p .0, p .1, p .2, p .3)
+    (listing c, p .0, p .1, p .2, p .3, p .5)
 
 first-piece-requires : tie.Need-first-piece-requires
 first-piece-requires c κs = search needs

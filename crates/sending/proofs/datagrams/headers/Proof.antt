@@ -8,8 +8,8 @@ standard-requires c κs = search needs
 count-requires : tie.Need-count-requires
 count-requires c κs = search needs
 
-cast-t11 : tie.Need-cast-t11
-cast-t11 c = search needs
+cast-t12 : tie.Need-cast-t12
+cast-t12 c = search needs
 
 acknowledge-requires : tie.Need-acknowledge-requires
 acknowledge-requires c κs = search needs
@@ -19,4 +19,4 @@ returns c = rw (c .acknowledge .ensures, c .before .count .ensures, c .before .b
 
 pub headers-spec : {M : Type 1} → statement M
 headers-spec =
-    tie.close (tie.spec standard-requires count-requires cast-t11 acknowledge-requires returns)
+    tie.close (tie.spec standard-requires count-requires cast-t12 acknowledge-requires returns)

@@ -12,14 +12,14 @@ use Rattle.sending.proofs.Fits.{holds, few-datagrams, not-over, room}
 use Rattle.sending.proofs.Performed.{performed}
 
 sizes : (c : tie.Start) → InRange (c .args .sizes)
-sizes c = in-range-means (c .args .sizes) (c .pre .range)
+sizes c = in-range-means (c .args .sizes) (c .pre .0 .range)
 
 -- the payload fits its slot in flight, and that slot is there
 held : (c : tie.Start) → length (now (c .args .payload)) ≤ 16 * c .args .sizes .«fragment_size»
-held c = holds (length (now (c .args .payload))) (c .args .sizes .«fragment_size») 16 (sizes c .f .0) (omega (arith, c .pre .few, sizes c .m .1))
+held c = holds (length (now (c .args .payload))) (c .args .sizes .«fragment_size») 16 (sizes c .f .0) (omega (arith, c .pre .0 .few, sizes c .m .1))
 
 there : (c : tie.Start) → c .args .sending .at * (16 * c .args .sizes .«fragment_size») + 16 * c .args .sizes .«fragment_size» ≤ length (now (c .args .payloads))
-there c = omega (arith, slot-end (c .args .sending .at) (c .args .sizes .«packets_in_flight») (16 * c .args .sizes .«fragment_size») (c .pre .at-place), c .pre .room)
+there c = omega (arith, slot-end (c .args .sending .at) (c .args .sizes .«packets_in_flight») (16 * c .args .sizes .«fragment_size») (c .pre .0 .at-place), c .pre .0 .room)
 
 identify-requires : tie.Need-identify-requires
 identify-requires c κs = search needs
@@ -28,9 +28,9 @@ first-requires : tie.Need-first-requires
 first-requires c κs =
     let s = c .before .before .before .before .before .before .before .before .before .before .before .before .before .before in
     let a = s .args in
-    let r = s .pre in
+    let r = s .pre .0 in
     let f = sizes s .f in
-    (r .slots, f .0, f .1, few-datagrams (a .sizes .«fragment_size») (length (now (a .payload))) (a .sizes .«max_fragments») (sizes s .m .1) (r .few), room (a .sizes .«fragment_size») (a .item) (c .before .before .before .before .identify .result .item) (a .end .acks) (now (a .received)) (now (a .payload)) (now (a .output)) (f .0) (r .wide))
+    (r .slots, f .0, f .1, few-datagrams (a .sizes .«fragment_size») (length (now (a .payload))) (a .sizes .«max_fragments») (sizes s .m .1) (r .few), room (a .sizes .«fragment_size») (a .item) (c .before .before .before .before .identify .result .item) (a .end .acks) (now (a .received)) (now (a .payload)) (now (a .output)) (f .0) (r .wide), s .pre .1)
 
 count-requires : tie.Need-count-requires
 count-requires c κs = sizes (c .before .before .before .before .before .before .before .before .before .before .before .before .before .before .before .before .before) .f
@@ -39,7 +39,7 @@ keep-requires : tie.Need-keep-requires
 keep-requires c κs =
     let s = c .before .before .before .before .before .before .before .before .before .before .before .before .before .before .before .before .before .before .before .before .before in
     let a = s .args in
-    let r = s .pre in
+    let r = s .pre .0 in
     (sizes s .f .1, omega (arith, r .at-place, r .places), omega (arith, r .at-place, r .beside), there s, held s, omega (arith, not-over (a .sizes .«fragment_size») (length (now (a .payload))) (a .item) (r .short)))
 
 same-length : tie.Need-same-length

@@ -124,7 +124,7 @@ headers-after-requires c κs = search needs
 headers-requires : tie.Need-headers-requires
 headers-requires c κs =
     let few = rw (← c .before .before .before .before .before .fragments-needed .ensures) at (slot (c .before .before .before .before .before .before .before) .few) in
-    (listing c, gate (c .before .before .before .before .before .before .before .before .before .before .before .before .before .before .before .before .before .before .before .before .before .before .before .before) .received-room, omega (arith, few, c .before .before .before .before .if3 .left), omega (arith, few))
+    (listing c, gate (c .before .before .before .before .before .before .before .before .before .before .before .before .before .before .before .before .before .before .before .before .before .before .before .before) .received-room, omega (arith, few, c .before .before .before .before .if3 .left), omega (arith, few), c .before .before .before .before .before .before .before .before .before .before .before .before .before .before .before .before .before .before .before .before .before .before .before .before .pre .2)
 
 write-requires : tie.Need-write-requires
 write-requires c κs =
