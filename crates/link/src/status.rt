@@ -41,7 +41,7 @@ pub fn report(
 ) -> Asked
     ensures { λ r. ⌜ r ≡ reportOf sizes (lending end (now (received .entry)) (now (number .entry)) (now (records .entry)) (now (payloads .entry)) (now (slots .entry)) (now (entry .entry)) (now (header .entry)) (now (joined .entry)) (now (index .entry)) (now (lengths .entry)) (now (held .entry))) (now (output .entry)) ⌝ }
 {
-    let gate = gate::check(
+    let checked = gate::look(
         sizes,
         end,
         received,
@@ -57,6 +57,7 @@ pub fn report(
         held,
         output,
     );
+    let gate = checked.gate;
     if let Gate::Shut(why) = gate {
         return Asked::Refused(why);
     }
@@ -66,6 +67,6 @@ pub fn report(
         packets_in_flight: flight::places::count(&number[..sizes.packets_in_flight]),
         local_sequence_num,
         remote_sequence_num: acks.remote_sequence_num(),
-        ack_bitfield: received::ack_bitfield(acks.received, received),
+        ack_bitfield: received::ack_bitfield(acks.received, received, checked.turned),
     })
 }

@@ -66,7 +66,7 @@ enum-told : tie.Need-enum-told
 enum-told c = search needs
 
 receive-requires : tie.Need-receive-requires
-receive-requires c κs = (is-open (c .before .before .before .before .before .before .before .before .before .before), c .before .before .before .before .before .before .before .before .before .before .before .before .look .ensures .1)
+receive-requires c κs = (is-open (c .before .before .before .before .before .before .before .before .before .before), c .before .before .before .before .before .before .before .before .before .before .before .before .look .ensures .1 .0)
 
 same-length-11 : tie.Need-same-length-11
 same-length-11 c = search needs

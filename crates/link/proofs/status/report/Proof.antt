@@ -16,13 +16,13 @@ abbrev whole : tie.Start → State
 whole c = lending (c .args .end) (now (c .args .received)) (now (c .args .number)) (now (c .args .records)) (now (c .args .payloads)) (now (c .args .slots)) (now (c .args .entry)) (now (c .args .header)) (now (c .args .joined)) (now (c .args .index)) (now (c .args .lengths)) (now (c .args .held))
 
 is-open : (c : tie.After-enum-told) → gateOf (c .before .before .before .before .before .before .before .before .before .before .before .before .before .before .before .args .sizes) (whole (c .before .before .before .before .before .before .before .before .before .before .before .before .before .before .before)) (now (c .before .before .before .before .before .before .before .before .before .before .before .before .before .before .before .args .output)) ≡ Open
-is-open c = sym (c .before .before .check .ensures) ∙ c .enum-told .given .1
+is-open c = sym (c .before .before .look .ensures .0) ∙ c .enum-told .given .1
 
 opens : (c : tie.After-enum-told) → Opened (c .before .before .before .before .before .before .before .before .before .before .before .before .before .before .before .args .sizes) (whole (c .before .before .before .before .before .before .before .before .before .before .before .before .before .before .before)) (now (c .before .before .before .before .before .before .before .before .before .before .before .before .before .before .before .args .output))
 opens c = opened (c .before .before .before .before .before .before .before .before .before .before .before .before .before .before .before .args .sizes) (whole (c .before .before .before .before .before .before .before .before .before .before .before .before .before .before .before)) (now (c .before .before .before .before .before .before .before .before .before .before .before .before .before .before .before .args .output)) (is-open c)
 
-check-requires : tie.Need-check-requires
-check-requires c κs = search needs
+look-requires : tie.Need-look-requires
+look-requires c κs = search needs
 
 enum-known-gate : tie.Need-enum-known-gate
 enum-known-gate c = search needs
@@ -31,8 +31,8 @@ returns : tie.Need-returns
 returns c =
     let s = c .before .before .before .before .before .before .before .before .before .before .before .before .before .before .before .before in
     let why = c .before .gate .given .0 .0 in
-    let e : c .before .before .before .check .result ≡ Shut why = c .before .gate .given .1 in
-    let g = sym (c .before .before .before .check .ensures) ∙ e in
+    let e : c .before .before .before .look .result .gate ≡ Shut why = c .before .gate .given .1 in
+    let g = sym (c .before .before .before .look .ensures .0) ∙ e in
     sym (report-shut (s .args .sizes) (whole s) (now (s .args .output)) why g)
 
 enum-told : tie.Need-enum-told
@@ -50,7 +50,7 @@ remote-sequence-num-requires : tie.Need-remote-sequence-num-requires
 remote-sequence-num-requires c κs = search needs
 
 ack-bitfield-requires : tie.Need-ack-bitfield-requires
-ack-bitfield-requires c κs = opens (c .before .before .before .before .before) .received-room
+ack-bitfield-requires c κs = (opens (c .before .before .before .before .before) .received-room, c .before .before .before .before .before .before .before .look .ensures .1 .1)
 
 returns-2 : tie.Need-returns-2
 returns-2 c =
@@ -61,7 +61,7 @@ pub report-spec : {M : Type 1} → statement M
 report-spec =
     tie.close
     (tie.spec
-    check-requires
+    look-requires
     enum-known-gate
     returns
     enum-told
