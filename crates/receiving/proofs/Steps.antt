@@ -16,9 +16,10 @@ use Rattle.packet.specs.declared.Read.the-variants.{Found, Refused as Unread}
 use Rattle.ends.specs.State.{State, lending}
 use Rattle.ends.specs.declared.End.{End}
 use Rattle.receiving.specs.Packets.{Accepts}
-use Rattle.receiving.specs.Fragments.{Joins}
+use Rattle.receiving.specs.Fragments.{Joins, withPart}
 use Rattle.receiving.specs.Receive.{Step, refused, refusalOf, packetOf, fragmentOf, receivedOf, Receives}
 use Rattle.receiving.specs.declared.Received.{Received}
+use Rattle.receiving.specs.declared.fragments.Joined.{Joined}
 use Rattle.receiving.specs.declared.Answer.{Answer}
 use Rattle.receiving.specs.declared.Answer.the-variants.{Heartbeat}
 
@@ -106,14 +107,15 @@ module _ (end : End) (received number records payloads slots entry header joined
         })
 
     pub by-fragment : (received′ number′ slots′ entry′ header′ joined′ output′ : List ℕ) → t ≡ fragmentOf z h payload whole output
-        → Joins z h payload end received number slots entry header joined output r received′ number′ slots′ entry′ header′ joined′ output′
+        → (j : Joined) → r ≡ withPart end j
+        → Joins z h payload (end .acks) (end .reassembly) received number slots entry header joined output j received′ number′ slots′ entry′ header′ joined′ output′
         → Receives t r received′ number′ records payloads slots′ entry′ header′ joined′ index lengths held output′
-    by-fragment received′ number′ slots′ entry′ header′ joined′ output′ q p =
-        rw q
+    by-fragment received′ number′ slots′ entry′ header′ joined′ output′ q j w p =
+        rw (q, w)
         (record {
           answer-is = p .answer-is;
           leaves = record {
-            end-is = λ i. record { acks = p .acks-are i; reassembly = record { 0 = p .reassembly-is i }; ordering = p .ordering-is i; sequencing = p .sequencing-is i };
+            end-is = λ i. record { acks = p .acks-are i; reassembly = record { 0 = p .reassembly-is i }; ordering = end .ordering; sequencing = end .sequencing };
             received-is = p .received-is;
             number-is = p .number-is;
             records-are = refl;

@@ -6,6 +6,7 @@ use lib.ListN.{length, take}
 use Rattle.terms.specs.declared.Sizes.{Sizes}
 use Rattle.received.specs.Record.{slotCount}
 use Rattle.acknowledgment.specs.declared.Acknowledgment.{Acknowledgment}
+use Rattle.serial.specs.declared.PacketNumber.{PacketNumber}
 use Rattle.packet.specs.declared.Headers.{Headers}
 use Rattle.packet.specs.declared.DeliveryGuarantee.the-variants.{Reliable}
 use Rattle.packet.specs.declared.OrderingGuarantee.the-variants.{None}
@@ -20,6 +21,7 @@ use Rattle.reassembly.specs.declared.effects.Answer.the-variants.{Waiting as Is
 use Rattle.ends.specs.declared.End.{End}
 use Rattle.receiving.specs.Packets.{Heard, unheard, heardOf}
 use Rattle.receiving.specs.declared.Received.{Received}
+use Rattle.receiving.specs.declared.fragments.Joined.{Joined}
 use Rattle.receiving.specs.declared.Answer.{Answer}
 use Rattle.receiving.specs.declared.Answer.the-variants.{Out, Waiting, Refused}
 
@@ -67,25 +69,31 @@ toldPart (Whole m) = Out (record { delivery = Reliable; ordering = None; stream 
 toldPart (IsRefused why) = Refused why
 
 -- a fragment has come
-pub record Joins (z : Sizes) (h : Headers) (payload : List ℕ) (end : End) (received number slots entry header joined output : List ℕ)
-    (r : Received) (received′ number′ slots′ entry′ header′ joined′ output′ : List ℕ) : Type 0 where
-  pub answer-is : r .answer ≡ toldPart (partAnswer z h payload (lending (end .reassembly .0) slots entry header joined))
-  pub acks-are : r .end .acks ≡ acksAtWhole (partAnswer z h payload (lending (end .reassembly .0) slots entry header joined)) z (end .acks) received number .counters
-  pub received-is : received′ ≡ acksAtWhole (partAnswer z h payload (lending (end .reassembly .0) slots entry header joined)) z (end .acks) received number .received
-  pub number-is : number′ ≡ acksAtWhole (partAnswer z h payload (lending (end .reassembly .0) slots entry header joined)) z (end .acks) received number .number
-  pub reassembly-is : r .end .reassembly .0 ≡ partsAfter z h payload (lending (end .reassembly .0) slots entry header joined) .num
-  pub slots-are : slots′ ≡ partsAfter z h payload (lending (end .reassembly .0) slots entry header joined) .slots
-  pub entry-is : entry′ ≡ partsAfter z h payload (lending (end .reassembly .0) slots entry header joined) .entry
-  pub header-is : header′ ≡ partsAfter z h payload (lending (end .reassembly .0) slots entry header joined) .header
-  pub joined-are : joined′ ≡ partsAfter z h payload (lending (end .reassembly .0) slots entry header joined) .bytes
-  pub ordering-is : r .end .ordering ≡ end .ordering
-  pub sequencing-is : r .end .sequencing ≡ end .sequencing
-  pub output-is : output′ ≡ partOutput z h payload (lending (end .reassembly .0) slots entry header joined) output
+pub record Joins (z : Sizes) (h : Headers) (payload : List ℕ) (acks : Acknowledgment) (num : PacketNumber) (received number slots entry header joined output : List ℕ)
+    (r : Joined) (received′ number′ slots′ entry′ header′ joined′ output′ : List ℕ) : Type 0 where
+  pub answer-is : r .answer ≡ toldPart (partAnswer z h payload (lending (num .0) slots entry header joined))
+  pub acks-are : r .acks ≡ acksAtWhole (partAnswer z h payload (lending (num .0) slots entry header joined)) z acks received number .counters
+  pub received-is : received′ ≡ acksAtWhole (partAnswer z h payload (lending (num .0) slots entry header joined)) z acks received number .received
+  pub number-is : number′ ≡ acksAtWhole (partAnswer z h payload (lending (num .0) slots entry header joined)) z acks received number .number
+  pub reassembly-is : r .reassembly .0 ≡ partsAfter z h payload (lending (num .0) slots entry header joined) .num
+  pub slots-are : slots′ ≡ partsAfter z h payload (lending (num .0) slots entry header joined) .slots
+  pub entry-is : entry′ ≡ partsAfter z h payload (lending (num .0) slots entry header joined) .entry
+  pub header-is : header′ ≡ partsAfter z h payload (lending (num .0) slots entry header joined) .header
+  pub joined-are : joined′ ≡ partsAfter z h payload (lending (num .0) slots entry header joined) .bytes
+  pub output-is : output′ ≡ partOutput z h payload (lending (num .0) slots entry header joined) output
+
+-- the end with what a fragment has changed of it
+abbrev pub withPart : End → Joined → Received
+withPart end p =
+    record {
+      end = record { acks = p .acks; reassembly = p .reassembly; ordering = end .ordering; sequencing = end .sequencing };
+      answer = p .answer;
+    }
 
 -- what a fragment requires: enough storage, a sound table, a payload to F
-pub record FragmentReady (z : Sizes) (end : End) (received number slots entry header joined payload output : List ℕ) : Type 0 where
+pub record FragmentReady (z : Sizes) (num : PacketNumber) (received number slots entry header joined payload output : List ℕ) : Type 0 where
   pub record-slots : slotCount ≤ length received
   pub flying : z .«packets_in_flight» ≤ length number
   pub table-slots : z .«reassembly_slots» ≤ length slots
-  pub table : Room (z .«fragment_size») (stated (z .«reassembly_slots») (lending (end .reassembly .0) slots entry header joined)) output
+  pub table : Room (z .«fragment_size») (stated (z .«reassembly_slots») (lending (num .0) slots entry header joined)) output
   pub short : length payload ≤ z .«fragment_size»

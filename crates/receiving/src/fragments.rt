@@ -9,20 +9,28 @@ ghost use Rattle.receiving.specs.Packets.{Hearing};
 ghost use Rattle.receiving.specs.Fragments.{partOf, acksAtWhole, toldPart, FragmentReady, Joins};
 use crate::Answer;
 use crate::Item;
-use crate::Received;
 use acknowledgment::Acknowledgment;
-use ends::End;
 use packet::DeliveryGuarantee;
 use packet::Headers;
 use packet::OrderingGuarantee;
 use reassembly::plan::Fragment;
 use reassembly::words::AckHeader;
+use serial::PacketNumber;
 use terms::Sizes;
 
-// Requires an end that the gate lets through, with packets in flight at home where they are said to be, and a payload to F.
+// What a fragment changes of an end, and the answer. It leaves out the streams, so that they are not copied on the way.
+pub struct Joined {
+    pub acks: Acknowledgment,
+    pub reassembly: PacketNumber,
+    pub answer: Answer,
+}
+
+// Requires the parts of an end that the gate lets through, with packets in flight at home where they are said to be, and a
+// payload to F.
 pub fn join(
     sizes: Sizes,
-    end: End,
+    acks: Acknowledgment,
+    num: PacketNumber,
     received: &mut [u32],
     number: &mut [u32],
     slots: &mut [u32],
@@ -33,13 +41,12 @@ pub fn join(
     payload: &[u8],
     output: &mut [u8],
     home: bool,
-) -> Received
-    requires { ⌜ FragmentReady sizes end (now received) (now number) (now slots) (now entry) (now header) (now joined) (now payload) (now output) × KnownHome home (tableOf sizes (now number)) ⌝ }
-    ensures { λ r. ⌜ Joins sizes headers (now (payload .entry)) end (now (received .entry)) (now (number .entry)) (now (slots .entry)) (now (entry .entry)) (now (header .entry)) (now (joined .entry)) (now (output .entry)) r (now (received .exit)) (now (number .exit)) (now (slots .exit)) (now (entry .exit)) (now (header .exit)) (now (joined .exit)) (now (output .exit)) ⌝ }
+) -> Joined
+    requires { ⌜ FragmentReady sizes num (now received) (now number) (now slots) (now entry) (now header) (now joined) (now payload) (now output) × KnownHome home (tableOf sizes (now number)) ⌝ }
+    ensures { λ r. ⌜ Joins sizes headers (now (payload .entry)) acks num (now (received .entry)) (now (number .entry)) (now (slots .entry)) (now (entry .entry)) (now (header .entry)) (now (joined .entry)) (now (output .entry)) r (now (received .exit)) (now (number .exit)) (now (slots .exit)) (now (entry .exit)) (now (header .exit)) (now (joined .exit)) (now (output .exit)) ⌝ }
 {
     let f = sizes.fragment_size;
     let c = sizes.reassembly_slots;
-    let num = end.reassembly;
     let fragment = fragment(headers);
     let plan = reassembly::plan::judge(f, num, &slots[..c], entry, fragment, payload.len());
     let handled = reassembly::effects::perform(
@@ -56,15 +63,9 @@ pub fn join(
     );
     let answer = handled.answer;
     let reassembly = handled.sequence_num;
-    let ordering = end.ordering;
-    let sequencing = end.sequencing;
-    Received {
-        end: End {
-            acks: hear_whole(answer, sizes, end.acks, received, number, home),
-            reassembly,
-            ordering,
-            sequencing,
-        },
+    Joined {
+        acks: hear_whole(answer, sizes, acks, received, number, home),
+        reassembly,
         answer: tell(answer),
     }
 }

@@ -7,8 +7,10 @@ ghost use Rattle.flight.specs.AtHome.{KnownHome};
 ghost use Rattle.acknowledgment.specs.State.{tableOf};
 ghost use Rattle.ends.specs.State.{lending};
 ghost use Rattle.ends.specs.Gate.{gateOf};
-ghost use Rattle.receiving.specs.declared.Answer.the-variants.{Refused};
+ghost use Rattle.receiving.specs.declared.Answer.the-variants.{Heartbeat, Refused};
+ghost use Rattle.receiving.specs.Fragments.{withPart};
 ghost use Rattle.receiving.specs.Receive.{refusalOf, receivedOf, Receives};
+use crate::fragments::Joined;
 use ends::End;
 use packet::DeliveryGuarantee;
 use packet::OrderingGuarantee;
@@ -97,24 +99,54 @@ pub fn receive(
             output,
             home,
         ),
-        PacketType::Fragment => fragments::join(
-            sizes,
-            end,
-            received,
-            number,
-            slots,
-            entry,
-            header,
-            joined,
-            headers,
-            payload,
-            output,
-            home,
-        ),
-        PacketType::Heartbeat => Received {
-            end,
-            answer: Answer::Heartbeat,
+        PacketType::Fragment => {
+            let part = fragments::join(
+                sizes,
+                end.acks,
+                end.reassembly,
+                received,
+                number,
+                slots,
+                entry,
+                header,
+                joined,
+                headers,
+                payload,
+                output,
+                home,
+            );
+            with_part(end, part)
+        }
+        PacketType::Heartbeat => heartbeat(end),
+    }
+}
+
+// The end with what a fragment has changed of it.
+fn with_part(end: End, part: Joined) -> Received
+    ensures { λ r. ⌜ r ≡ withPart end part ⌝ }
+{
+    let acks = part.acks;
+    let reassembly = part.reassembly;
+    let ordering = end.ordering;
+    let sequencing = end.sequencing;
+    let answer = part.answer;
+    Received {
+        end: End {
+            acks,
+            reassembly,
+            ordering,
+            sequencing,
         },
+        answer,
+    }
+}
+
+fn heartbeat(end: End) -> Received
+    ensures { λ r. ⌜ r ≡ record { end = end; answer = Heartbeat } ⌝ }
+{
+    Received {
+        end,
+        answer: Answer::Heartbeat,
     }
 }
 

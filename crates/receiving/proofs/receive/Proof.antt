@@ -115,8 +115,14 @@ join-requires c κs =
       s .pre .1,
     )
 
+with-part-requires : tie.Need-with-part-requires
+with-part-requires c κs = search needs
+
 enum-told-4 : tie.Need-enum-told-4
 enum-told-4 c = search needs
+
+heartbeat-requires : tie.Need-heartbeat-requires
+heartbeat-requires c κs = search needs
 
 same-length : tie.Need-same-length
 same-length c = c .before .before .before .before .before .before .before .before .before .before .before .before .accept .kept .1 .1 .0
@@ -147,44 +153,45 @@ returns-3 c =
     (rw (rest (now (s .args .datagram)) (g .read .given .0 .1 .0)) at (c .before .before .before .before .before .before .before .before .before .before .before .before .accept .ensures))
 
 same-length-7 : tie.Need-same-length-7
-same-length-7 c = c .before .before .before .before .before .before .before .before .before .before .before .before .before .before .join .kept .1 .1 .0
+same-length-7 c = c .before .before .before .before .before .before .before .before .before .before .before .before .before .before .before .join .kept .1 .1 .1 .0
 
 same-length-8 : tie.Need-same-length-8
-same-length-8 c = c .before .before .before .before .before .before .before .before .before .before .before .before .before .before .join .kept .1 .1 .1 .0
+same-length-8 c = c .before .before .before .before .before .before .before .before .before .before .before .before .before .before .before .join .kept .1 .1 .1 .1 .0
 
 same-length-9 : tie.Need-same-length-9
-same-length-9 c = c .before .before .before .before .before .before .before .before .before .before .before .before .before .before .join .kept .1 .1 .1 .1 .0
+same-length-9 c = c .before .before .before .before .before .before .before .before .before .before .before .before .before .before .before .join .kept .1 .1 .1 .1 .1 .0
 
 same-length-10 : tie.Need-same-length-10
-same-length-10 c = c .before .before .before .before .before .before .before .before .before .before .before .before .before .before .join .kept .1 .1 .1 .1 .1 .0
+same-length-10 c = c .before .before .before .before .before .before .before .before .before .before .before .before .before .before .before .join .kept .1 .1 .1 .1 .1 .1 .0
 
 same-length-11 : tie.Need-same-length-11
-same-length-11 c = c .before .before .before .before .before .before .before .before .before .before .before .before .before .before .join .kept .1 .1 .1 .1 .1 .1 .0
+same-length-11 c = c .before .before .before .before .before .before .before .before .before .before .before .before .before .before .before .join .kept .1 .1 .1 .1 .1 .1 .1 .0
 
 same-length-12 : tie.Need-same-length-12
-same-length-12 c = c .before .before .before .before .before .before .before .before .before .before .before .before .before .before .join .kept .1 .1 .1 .1 .1 .1 .1 .0
+same-length-12 c = c .before .before .before .before .before .before .before .before .before .before .before .before .before .before .before .join .kept .1 .1 .1 .1 .1 .1 .1 .1 .0
 
 same-length-13 : tie.Need-same-length-13
-same-length-13 c = c .before .before .before .before .before .before .before .before .before .before .before .before .before .before .join .kept .1 .1 .1 .1 .1 .1 .1 .1 .1 .1 .0
+same-length-13 c = c .before .before .before .before .before .before .before .before .before .before .before .before .before .before .before .join .kept .1 .1 .1 .1 .1 .1 .1 .1 .1 .1 .1 .0
 
 returns-4 : tie.Need-returns-4
 returns-4 c =
-    let s = c .before .before .before .before .before .before .before .before .before .before .before .before .before .before .before .before .before .before .before .before .before .before .before .before .before .before .before .before .before .before .before .before .before .before .before .before .before .before .before .before .before .before .before .before .before in
-    let g = c .before .before .before .before .before .before .before .before .before .before .before .before .before .before .before .before .before .before .before .before .before .before .before .before .before .before .before .before .before in
-    let t : g .read .given .0 .0 .standard .«packet_type» ≡ Fragment = c .before .before .before .before .before .before .before .before .before .before .before .before .before .before .before .before .before .before .before .before .before .before .enum-told3 .given .1 in
+    let s = c .before .before .before .before .before .before .before .before .before .before .before .before .before .before .before .before .before .before .before .before .before .before .before .before .before .before .before .before .before .before .before .before .before .before .before .before .before .before .before .before .before .before .before .before .before .before in
+    let g = c .before .before .before .before .before .before .before .before .before .before .before .before .before .before .before .before .before .before .before .before .before .before .before .before .before .before .before .before .before .before in
+    let t : g .read .given .0 .0 .standard .«packet_type» ≡ Fragment = c .before .before .before .before .before .before .before .before .before .before .before .before .before .before .before .before .before .before .before .before .before .before .before .enum-told3 .given .1 in
     by-fragment (s .args .end) (now (s .args .received)) (now (s .args .number)) _ _ (now (s .args .slots)) (now (s .args .entry)) (now (s .args .header)) (now (s .args .joined)) _ _ _ (now (s .args .output)) _
     (s .args .sizes) (g .read .given .0 .0) (drop (g .read .given .0 .1 .0) (now (s .args .datagram))) _ _ _ _ _ _ _ _
-    (on-fragment (s .args .sizes) (whole s) (now (s .args .datagram)) (now (s .args .output)) _ _ (found g) (c .before .before .before .before .before .before .before .before .before .before .before .before .before .before .before .before .before .before .before .before .before .before .before .before .before .before .if1 .left) t)
-    (rw (rest (now (s .args .datagram)) (g .read .given .0 .1 .0)) at (c .before .before .before .before .before .before .before .before .before .before .before .before .before .before .join .ensures))
+    (on-fragment (s .args .sizes) (whole s) (now (s .args .datagram)) (now (s .args .output)) _ _ (found g) (c .before .before .before .before .before .before .before .before .before .before .before .before .before .before .before .before .before .before .before .before .before .before .before .before .before .before .before .if1 .left) t)
+    (c .before .before .before .before .before .before .before .before .before .before .before .before .before .before .before .join .result) (c .with-part .ensures)
+    (rw (rest (now (s .args .datagram)) (g .read .given .0 .1 .0)) at (c .before .before .before .before .before .before .before .before .before .before .before .before .before .before .before .join .ensures))
 
 returns-5 : tie.Need-returns-5
 returns-5 c =
-    let s = c .before .before .before .before .before .before .before .before .before .before .before .before .before .before .before .before .before .before .before .before .before .before .before in
-    let g = c .before .before .before .before .before .before .before in
-    let t : g .read .given .0 .0 .standard .«packet_type» ≡ IsHeartbeat = c .enum-told4 .given .1 in
+    let s = c .before .before .before .before .before .before .before .before .before .before .before .before .before .before .before .before .before .before .before .before .before .before .before .before in
+    let g = c .before .before .before .before .before .before .before .before in
+    let t : g .read .given .0 .0 .standard .«packet_type» ≡ IsHeartbeat = c .before .enum-told4 .given .1 in
     left-all (s .args .end) _ _ _ _ _ _ _ _ _ _ _ _ _ _ Heartbeat
-    (on-heartbeat (s .args .sizes) (whole s) (now (s .args .datagram)) (now (s .args .output)) _ _ (found g) (c .before .before .before .before .if1 .left) t)
-    refl
+    (on-heartbeat (s .args .sizes) (whole s) (now (s .args .datagram)) (now (s .args .output)) _ _ (found g) (c .before .before .before .before .before .if1 .left) t)
+    (c .heartbeat .ensures)
 
 pub receive-spec : {M : Type 1} → statement M
 receive-spec =
@@ -206,7 +213,9 @@ receive-spec =
     accept-requires
     enum-told-3
     join-requires
+    with-part-requires
     enum-told-4
+    heartbeat-requires
     same-length
     same-length-2
     same-length-3
