@@ -1,11 +1,11 @@
 -- Document 01, module 2: what each call answers and leaves, refused or not.
 use Prim.Native.Nat.{ℕ, _+_, _*_}
 use mathlib.Core.Path.{_≡_}
-use mathlib.Core.Bool.{Bool, cond, not, _&&_, _||_}
+use mathlib.Core.Bool.{Bool, cond, _&&_}
 use mathlib.Core.List.{List, map, _++_}
 use lib.ListN.{length, set, drop}
 use lib.Seq.{paste}
-use lib.Dec.{ltb, leb, eqb}
+use lib.Dec.{ltb, leb}
 use Rattle.terms.specs.declared.Sizes.{Sizes}
 use Rattle.terms.specs.Refusals.{numberOf}
 use Rattle.terms.specs.declared.Refusal.the-variants.{TooLong, ExceededMaxFragments, Full}

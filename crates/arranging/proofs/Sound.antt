@@ -1,22 +1,21 @@
 -- 13 for all ordered streams: the loop's steps, and what is known where it passes. Assumes nothing.
 use Prim.Native.Nat.{ℕ, zero, suc, _+_, _*_, _≤_, _<_}
-use mathlib.Core.Path.{_≡_, refl, sym, ap, _∙_}
+use mathlib.Core.Path.{_≡_, refl, sym, _∙_}
 use mathlib.Core.Bool.{Bool, true, false, _&&_}
 use mathlib.Core.List.{List}
 use mathlib.Core.Logic.{⊎-elim}
-use native.Mathlib.Nat.{not-suc-le-zero, le-of-suc-le-suc}
+use native.Mathlib.Nat.{not-suc-le-zero}
 use native.Mathlib.Numerals.{add-one}
 use native.Mathlib.Omega.{arith}
 use borrow.Author.Tests.{le-ltb, leb-true}
 use lib.Dec.{leb}
-use lib.ListN.{length, getD}
+use lib.ListN.{length}
 use Rattle.laws.proofs.Cases.{lt-or-le}
 use Rattle.ordering.specs.State.{fresh}
 use Rattle.ordering.specs.Gate.{sound}
-use Rattle.ordering.specs.Room.{Room}
 use Rattle.ordering.proofs.Gates.{first, second, sound-count, sound-short}
 use Rattle.arranging.specs.Ids.{soundIds}
-use Rattle.arranging.specs.Ordered.{part, streamAt, States, stateAt, RoomForAll, eachSound, soundAll}
+use Rattle.arranging.specs.Ordered.{part, streamAt, States, RoomForAll, eachSound, soundAll}
 use Rattle.arranging.specs.declared.ids.StreamIds.{StreamIds}
 use Rattle.arranging.specs.declared.ordered.OrderingStreams.{OrderingStreams}
 use Rattle.arranging.proofs.Parts.{block-end, part-length}

@@ -2,7 +2,7 @@
 --     first-le, first-at     the first place of a key
 --     least-found            the least lost number stands in the table
 --     fits-at                a recorded length is not over its slot
-use mathlib.Core.Path.{_≡_, refl, sym}
+use mathlib.Core.Path.{_≡_, sym}
 use mathlib.Core.Bool.{true, false, _&&_, or-true}
 use mathlib.Core.List.{List, [], _∷_}
 use Prim.Native.Nat.{ℕ, zero, suc, _≤_, _<_, zero-le, suc-le-suc}

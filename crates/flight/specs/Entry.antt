@@ -2,7 +2,7 @@
 -- payload length (16).
 use Prim.Native.Nat.{ℕ, _+_, _*_, _/_, _%_}
 use mathlib.Core.List.{List}
-use lib.ListN.{take, drop, getD}
+use lib.ListN.{take, drop}
 use Rattle.flight.specs.declared.SentPacket.{SentPacket}
 
 abbrev pub packed : SentPacket → ℕ → ℕ

@@ -11,7 +11,6 @@ use Rattle.serial.specs.Order.{greater, back}
 use Rattle.sequence_buffer.specs.Buffer.{none}
 use Rattle.flight.specs.Entry.{packetOf, lengthOf, bytesAt}
 use Rattle.flight.specs.Places.{overLong}
-use Rattle.flight.specs.declared.lost.Dropped.{Dropped}
 use Rattle.flight.specs.declared.lost.Drop.{Drop}
 use Rattle.flight.specs.declared.lost.Drop.the-variants.{Nothing, Packet}
 

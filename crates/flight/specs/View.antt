@@ -8,7 +8,7 @@ use Prim.Native.Nat.{ℕ, suc, _*_, _≤_, _<_}
 use lib.ListN.{length, getD, set}
 use lib.Seq.{paste}
 use lib.Dec.{ltb, eqb}
-use Rattle.keys.specs.Keys.{firstPlace, occurs, twice}
+use Rattle.keys.specs.Keys.{firstPlace, occurs}
 use Rattle.sequence_buffer.specs.Buffer.{emptied}
 use Rattle.flight.specs.Entry.{packed, packetOf, lengthOf, bytesAt}
 use Rattle.flight.specs.Places.{countOf, sound, placeOf, full}

@@ -20,7 +20,7 @@ use Rattle.terms.specs.Sizes.{inRange}
 use Rattle.terms.specs.declared.Sizes.{Sizes}
 use Rattle.terms.proofs.Ranges.{in-range-means}
 use Rattle.sequence_buffer.specs.Buffer.{fresh, holds, removedSlots}
-use Rattle.splitter.specs.Split.{needed, splitOf, pieces}
+use Rattle.splitter.specs.Split.{needed, splitOf}
 use Rattle.splitter.specs.declared.Split.the-variants.{Pieces}
 use Rattle.splitter.proofs.Pieces.{begins, piece-at, piece-count, piece-full, splits}
 use Rattle.reassembly.specs.Words.{entryWord, headerWord}

@@ -1,7 +1,7 @@
 -- A set of keys as 1,024 words of 64 bits: key v is bit v % 64 of word v / 64. Assumes nothing.
 --     Seen        the set holds the first i entries of the column, as far as they are keys
 --     Single      none of the first i entries stands before its own place
-use mathlib.Core.Path.{_≡_, refl, sym, ap, _∙_}
+use mathlib.Core.Path.{_≡_, sym, ap, _∙_}
 use mathlib.Core.Bool.{Bool, true, false, _||_, or-false, or-assoc}
 use mathlib.Core.List.{List, [], _∷_, _++_}
 use Prim.Native.Nat.{ℕ, _+_, _*_, _/_, _%_, _^_, _≤_, _<_}

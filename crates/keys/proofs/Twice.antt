@@ -2,7 +2,7 @@
 --     occurs-found, occurs-place     an entry occurs exactly where it stands at a place
 --     exact                          `twice` is exact
 --     all-apart                      a column of which no two places hold the same key
-use mathlib.Core.Path.{_≡_, refl, sym}
+use mathlib.Core.Path.{_≡_, sym}
 use mathlib.Core.Bool.{true, false, or-true}
 use mathlib.Core.List.{List, [], _∷_}
 use Prim.Native.Nat.{ℕ, zero, suc, _<_, zero-le, suc-le-suc}

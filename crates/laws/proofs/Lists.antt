@@ -2,7 +2,7 @@
 --     map-at         what stands at a place of a mapped list; map-const, a map to one value
 --     partly-..      a loop that maps a list in place from the front: after i turns it is `partly f i s`
 --     drop-back      what a loop from the back reads next
-use mathlib.Core.Path.{_≡_, refl, ap, sym, _∙_}
+use mathlib.Core.Path.{_≡_, refl, ap, _∙_}
 use mathlib.Core.List.{List, [], _∷_, map}
 use Prim.Native.Nat.{ℕ, zero, suc, _+_, _-_, _≤_, _<_}
 use native.Mathlib.Nat.{not-suc-le-zero, le-of-suc-le-suc}

@@ -1,5 +1,4 @@
 // A datagram has come.
-ghost use mathlib.Core.Path.{_≡_};
 ghost use Rattle.ends.specs.State.{lending};
 ghost use Rattle.receiving.specs.Receive.{Receives};
 ghost use Rattle.link.specs.Calls.{receiveOf};

@@ -20,7 +20,6 @@ use Rattle.ordering.specs.State.{State}
 use Rattle.ordering.specs.Gate.{tooShort, allFit, sound, gateOf}
 use Rattle.ordering.specs.Room.{Room}
 use Rattle.ordering.specs.declared.OrderingStream.{OrderingStream}
-use Rattle.terms.specs.declared.Gate.{Gate}
 use Rattle.terms.specs.declared.Gate.the-variants.{Open, Shut}
 use Rattle.ordering.proofs.Fits.{fits-at}
 

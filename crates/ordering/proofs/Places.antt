@@ -4,14 +4,14 @@
 --     copied-out                a copy of a part of a buffer
 --     move-step                 a turn of a copy downwards
 use Prim.Native.Nat.{ℕ, _+_, _-_, _*_, _≤_, _<_}
-use mathlib.Core.Path.{_≡_, refl, sym, ap, _∙_}
+use mathlib.Core.Path.{_≡_, sym}
 use mathlib.Core.List.{List, [], _++_, append-assoc, append-nil}
 use native.Mathlib.Nat.{le-of-lt, mul-le-mul-right, suc-mul, add-sub-cancel-left}
 use native.Mathlib.Numerals.{add-one}
 use native.Mathlib.Omega.{arith}
 use Rattle.laws.proofs.Paste.{paste-after}
 use lib.ListN.{length, getD, take, drop, set, length-drop, drop-of-length-le}
-use lib.Seq.{length-take-le, take-length, drop-drop, getD-drop, getD-append-add, paste, paste-suc, length-paste-head}
+use lib.Seq.{length-take-le, take-length, drop-drop, getD-drop, paste, paste-suc}
 
 pub place-end : (k f : ℕ) → k < 64 → k * f + f ≤ 64 * f
 place-end k f h = rw suc-mul at (mul-le-mul-right f h)

@@ -9,7 +9,6 @@ use Rattle.keys.specs.Keys.{twice}
 use Rattle.terms.specs.Gates.{through}
 use Rattle.terms.specs.Sizes.{inRange}
 use Rattle.terms.specs.declared.Sizes.{Sizes}
-use Rattle.terms.specs.declared.Refusal.{Refusal}
 use Rattle.terms.specs.declared.Refusal.the-variants.{BadSizes, BadStorage, TooLong, BadState}
 use Rattle.ordering.specs.State.{State, Leaves, written}
 use Rattle.ordering.specs.Arrange.{planOf, handedOut, arranged}

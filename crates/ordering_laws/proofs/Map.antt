@@ -1,24 +1,21 @@
 -- What is held is a map: the laws of putting and taking, from what is planned and found. Assumes nothing.
-use Prim.Native.Nat.{ℕ, _<_, _≤_}
-use mathlib.Core.Path.{_≡_, refl, sym, ap, _∙_}
-use mathlib.Core.Bool.{Bool, true, false, cond}
+use Prim.Native.Nat.{ℕ, _<_}
+use mathlib.Core.Path.{_≡_, refl, sym, _∙_}
 use mathlib.Core.List.{List}
-use mathlib.Core.Option.{none, some}
+use mathlib.Core.Option.{none}
 use mathlib.Core.Logic.{⊎-elim}
 use native.Mathlib.Omega.{arith}
 use borrow.Author.Tests.{le-ltb, lt-ltb}
-use lib.Dec.{ltb}
-use lib.ListN.{length, getD, take, drop}
+use lib.ListN.{getD}
 use Rattle.laws.proofs.Cases.{lt-or-le}
-use Rattle.ordering.specs.State.{State, placeOf}
-use Rattle.ordering.specs.Arrange.{planOf, arranged}
+use Rattle.ordering.specs.State.{State}
+use Rattle.ordering.specs.Arrange.{arranged}
 use Rattle.ordering.specs.Take.{nextPlace, nextOf, takenOut}
-use Rattle.ordering.specs.declared.Arranged.the-variants.{Out, Held}
+use Rattle.ordering.specs.declared.Arranged.the-variants.{Out}
 use Rattle.ordering.specs.declared.Taken.the-variants.{Item, Nothing}
 use Rattle.ordering.proofs.Planned.{held-place}
 use Rattle.ordering.proofs.Next.{next-none, next-item}
-use Rattle.ordering_laws.specs.Held.{bytesAt, heldAt, Good, HeldIsAMap}
-use Rattle.ordering_laws.proofs.Found.{place-at, at-found}
+use Rattle.ordering_laws.specs.Held.{heldAt, Good, HeldIsAMap}
 use Rattle.ordering_laws.proofs.Put.{put-found, put-other}
 use Rattle.ordering_laws.proofs.Removed.{left-here, left-other}
 

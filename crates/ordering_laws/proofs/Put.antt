@@ -1,6 +1,6 @@
 -- An item is held: the stream stays good, the item is found again, and what else is held stays. Assumes nothing.
 use Prim.Native.Nat.{ℕ, _+_, _*_, _≤_, _<_}
-use mathlib.Core.Path.{_≡_, refl, sym, ap, _∙_}
+use mathlib.Core.Path.{_≡_, sym, ap, _∙_}
 use mathlib.Core.List.{List}
 use mathlib.Core.Bool.{Bool, true, false, cond}
 use mathlib.Core.Option.{some}
@@ -9,15 +9,15 @@ use native.Mathlib.Nat.{le-refl, lt-of-lt-of-le, eq-or-lt-of-le}
 use native.Mathlib.Omega.{arith}
 use borrow.Author.Tests.{eq-eqb, ne-eqb}
 use lib.Dec.{eqb}
-use lib.ListN.{length, getD, set, length-set}
-use lib.Seq.{paste, take-length, length-paste, getD-set-same, getD-set-other}
+use lib.ListN.{length, getD, length-set}
+use lib.Seq.{take-length, length-paste, getD-set-same, getD-set-other}
 use Rattle.laws.proofs.Paste.{part-same, part-other, places-apart}
 use Rattle.ordering.specs.State.{State, placeOf}
 use Rattle.ordering.specs.Arrange.{arranged}
 use Rattle.ordering.specs.declared.Arranged.the-variants.{Held}
 use Rattle.ordering.proofs.Places.{place-end}
 use Rattle.ordering.proofs.Planned.{place-le}
-use Rattle.ordering_laws.specs.Held.{bytesAt, heldAt, Good}
+use Rattle.ordering_laws.specs.Held.{heldAt, Good}
 use Rattle.ordering_laws.proofs.Found.{same?, place-at, place-of, at-found, same-held}
 
 module _ (f : ℕ) (s : State) (g : Good f s) (x : ℕ) (p : List ℕ) (free : placeOf (s .stream) (s .index) x < 64) (fits : length p ≤ f) where

@@ -2,7 +2,7 @@
 use Prim.Native.Nat.{ℕ, _+_, _-_, _*_, _≤_, _<_}
 use mathlib.Core.Path.{_≡_, refl, sym, ap, _∙_}
 use mathlib.Core.List.{List}
-use mathlib.Core.Bool.{Bool, cond}
+use mathlib.Core.Bool.{cond}
 use mathlib.Core.Option.{none}
 use mathlib.Core.Logic.{⊎-elim}
 use native.Mathlib.Nat.{lt-irrefl, eq-or-lt-of-le}
@@ -10,7 +10,7 @@ use native.Mathlib.Omega.{arith}
 use borrow.Author.Tests.{eq-eqb, ne-eqb}
 use lib.Dec.{eqb}
 use lib.ListN.{length, getD, drop, set, length-set, length-drop}
-use lib.Seq.{paste, length-paste, getD-set-same, getD-set-other}
+use lib.Seq.{length-paste, getD-set-same, getD-set-other}
 use Rattle.laws.proofs.Paste.{part-same, part-other, places-apart}
 use Rattle.ordering.specs.State.{State}
 use Rattle.ordering.specs.Take.{nextPlace, lastPlace, taken}

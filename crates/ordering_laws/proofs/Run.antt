@@ -3,9 +3,8 @@
 --     next-right      one arrival
 use Prim.Native.Nat.{ℕ, zero, suc, _+_, _-_, _*_, _%_, _≤_, _<_}
 use mathlib.Core.Path.{_≡_, refl, sym, ap, _∙_}
-use mathlib.Core.List.{List, [], _∷_}
-use mathlib.Core.Bool.{true}
-use mathlib.Core.Option.{Option, none, some}
+use mathlib.Core.List.{List, _∷_}
+use mathlib.Core.Option.{none, some}
 use mathlib.Core.Logic.{_⊎_, ⊎-elim}
 use native.Mathlib.Nat.{eq-or-lt-of-le, not-suc-le-zero, add-suc, add-zero, suc-add}
 use native.Mathlib.Omega.{arith}
@@ -14,21 +13,20 @@ use Rattle.laws.proofs.Cases.{lt-or-le}
 use Rattle.serial.specs.Order.{back}
 use Rattle.terms.specs.declared.Sizes.{Sizes}
 use Rattle.terms.specs.declared.Refusal.{Refusal}
-use Rattle.terms.specs.declared.Refusal.the-variants.{Full}
 use Rattle.ordering.specs.State.{State, lending, fresh, written, placeOf}
 use Rattle.ordering.specs.Arrange.{planOf, handedOut, arranged}
 use Rattle.ordering.specs.Take.{nextPlace, nextOf, takenOut, taken}
-use Rattle.ordering.specs.Gate.{gateOf, arrangeOf, takeOf}
+use Rattle.ordering.specs.Gate.{gateOf, takeOf}
 use Rattle.terms.specs.declared.Gate.the-variants.{Open}
-use Rattle.ordering.specs.declared.Arranged.the-variants.{Out, Held, Old, Refused}
+use Rattle.ordering.specs.declared.Arranged.the-variants.{Out, Held, Old}
 use Rattle.ordering.specs.declared.Taken.{Taken}
 use Rattle.ordering.specs.declared.Taken.the-variants.{Item, Nothing, Refused as NotTaken}
 use Rattle.ordering.proofs.Planned.{plan-out, plan-old, plan-full, plan-held, place-le}
 use Rattle.ordering.proofs.Next.{next-none, next-item}
 use Rattle.ordering.proofs.Calls.{arrange-open, take-open}
 use Rattle.ordering_laws.specs.Held.{heldAt, Good}
-use Rattle.ordering_laws.specs.Sound.{afterArrange, afterTake}
-use Rattle.ordering_laws.specs.Run.{End, handing, going, drain, arrive, items, Right, Drained, InOrder}
+use Rattle.ordering_laws.specs.Sound.{afterTake}
+use Rattle.ordering_laws.specs.Run.{going, drain, arrive, Right, Drained, InOrder}
 use Rattle.ordering_laws.proofs.Found.{same?, at-absent}
 use Rattle.ordering_laws.proofs.Put.{put-good, put-found, put-other}
 use Rattle.ordering_laws.proofs.Removed.{left-good, left-here, left-other}

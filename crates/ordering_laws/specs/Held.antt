@@ -7,7 +7,6 @@ use mathlib.Core.List.{List}
 use mathlib.Core.Option.{Option, none, some}
 use lib.Dec.{ltb}
 use lib.ListN.{length, getD, take, drop}
-use Rattle.terms.specs.declared.Refusal.{Refusal}
 use Rattle.ordering.specs.State.{State, placeOf}
 use Rattle.ordering.specs.Arrange.{planOf, arranged}
 use Rattle.ordering.specs.Take.{nextOf, takenOut, taken}

@@ -1,6 +1,6 @@
 -- One arrival, with takes until none comes, hands out the next items in order: the heart of demand 3, for one stream.
 -- Positions are counted from 0: item p is the p-th that was sent, and its index is p modulo 65,536.
-use Prim.Native.Nat.{ℕ, zero, suc, _+_, _*_, _%_, _≤_, _<_}
+use Prim.Native.Nat.{ℕ, zero, suc, _+_, _%_, _≤_, _<_}
 use mathlib.Core.Path.{_≡_}
 use mathlib.Core.List.{List, [], _∷_}
 use mathlib.Core.Option.{Option, none, some}

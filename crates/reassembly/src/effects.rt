@@ -5,7 +5,7 @@ ghost use Prim.Native.Nat.{_≤_, _<_, _+_};
 ghost use lib.ListN.{length};
 ghost use Rattle.sequence_buffer.specs.Buffer.{insertedNum, insertedSlots, removedSlots};
 ghost use Rattle.reassembly.specs.Plan.{planOf};
-ghost use Rattle.reassembly.specs.Effects.{handsOut, put, numAfter, slotsAfter, entryAfter, headerAfter, bytesAfter, outputAfter, lengthOf, joinedAnswer, answerOf, Performs};
+ghost use Rattle.reassembly.specs.Effects.{handsOut, numAfter, slotsAfter, entryAfter, headerAfter, bytesAfter, outputAfter, lengthOf, joinedAnswer, answerOf, Performs};
 ghost use Rattle.reassembly.specs.Room.{lending, Room, Joins, Hands};
 use crate::plan::Fragment;
 use crate::plan::Plan;

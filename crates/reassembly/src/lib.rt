@@ -1,7 +1,6 @@
 // Fragments that arrive are put together to messages: read `handle_fragment` first. Which messages are being put together is
 // told by a sequence buffer of C slots; what else an entry has stands in columns beside it, and its bytes in lent room.
 // It leaves out headers on the wire and acknowledgments: those are the link's.
-ghost use mathlib.Core.Path.{_≡_};
 ghost use Rattle.reassembly.specs.Room.{lending};
 ghost use Rattle.reassembly.specs.Gate.{Handles};
 use effects::Answer;

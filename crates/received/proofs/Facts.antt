@@ -1,7 +1,7 @@
 -- What the field says, bit by bit. Assumes nothing.
 use mathlib.Core.Path.{_≡_, refl, ap, _∙_}
 use mathlib.Core.List.{List}
-use Prim.Native.Nat.{ℕ, _+_, _-_, _≤_, _<_}
+use Prim.Native.Nat.{ℕ, _+_, _-_, _≤_}
 use native.Mathlib.Omega.{arith}
 use Rattle.laws.specs.Bits.{bit, bitsBelow}
 use Rattle.laws.proofs.Bits.{bits-lt, bits-at}

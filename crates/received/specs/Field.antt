@@ -1,6 +1,6 @@
 -- Document 01, module 2: what is told of the received record.
 use mathlib.Core.Path.{_≡_}
-use mathlib.Core.Bool.{Bool, false}
+use mathlib.Core.Bool.{Bool}
 use mathlib.Core.List.{List}
 use Prim.Native.Nat.{ℕ, _+_, _-_, _%_, _^_, _≤_, _<_}
 use Rattle.laws.specs.Bits.{bit, bitsBelow}

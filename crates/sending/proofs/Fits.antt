@@ -2,7 +2,7 @@
 --     holds, at-most     n bytes are at most m pieces exactly where they are at most m * f
 --     room               the first datagram of an item
 use mathlib.Core.Path.{_≡_}
-use mathlib.Core.Bool.{true, false, not, _&&_}
+use mathlib.Core.Bool.{false}
 use mathlib.Core.List.{List}
 use mathlib.Core.Logic.{⊎-elim}
 use Prim.Native.Nat.{ℕ, _+_, _*_, _/_, _%_, _≤_, _<_}
@@ -11,7 +11,7 @@ use native.Mathlib.Omega.{arith}
 use lib.Dec.{ltb}
 use lib.ListN.{length, take, length-take}
 use borrow.Author.Tests.{ltb-false}
-use Rattle.laws.proofs.Cases.{case, on, neither, lt-or-le}
+use Rattle.laws.proofs.Cases.{case, neither, lt-or-le}
 use Rattle.serial.specs.declared.ItemId.{ItemId}
 use Rattle.acknowledgment.specs.declared.Acknowledgment.{Acknowledgment}
 use Rattle.splitter.specs.Split.{needed}

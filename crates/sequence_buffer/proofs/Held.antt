@@ -2,7 +2,7 @@
 --     held-inserted        a number is held where it was inserted, or was held in another slot and does not go
 --     length-..            the slot count
 use mathlib.Core.Path.{_≡_, refl, sym, ap, _∙_}
-use mathlib.Core.Bool.{Bool, true, false, not, _&&_, _||_, and-true}
+use mathlib.Core.Bool.{Bool, false, not, _&&_, _||_, and-true}
 use mathlib.Core.List.{List, map}
 use Prim.Native.Nat.{ℕ, _%_, _≤_, _<_}
 use native.Mathlib.Nat.{mod-lt}

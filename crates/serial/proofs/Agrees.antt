@@ -8,9 +8,9 @@ use lib.Dec.{ltb}
 use borrow.Author.Tests.{lt-ltb, le-ltb, eq-eqb, ne-eqb}
 use Rattle.laws.proofs.Cases.{case, both, lt-or-le}
 use Rattle.serial.specs.Order.{greater}
-use Rattle.serial.specs.Rfc1982.{less, more, defined}
+use Rattle.serial.specs.Rfc1982.{more, defined}
 use Rattle.serial.specs.Agreement.{AgreesWithRfc1982}
-use Rattle.serial.proofs.Laws.{Place, above, far-above, same, below, far-below, place, greater-above, greater-far-below, lesser-far-above, lesser-same, lesser-below}
+use Rattle.serial.proofs.Laws.{above, far-above, same, below, far-below, place, greater-above, greater-far-below, lesser-far-above, lesser-same, lesser-below}
 
 -- at distance 32,768 the RFC says neither equal, nor less, nor greater
 module _ (a b : ℕ) (half : a ≡ b + 32768) where

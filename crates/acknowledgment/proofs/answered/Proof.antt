@@ -2,7 +2,7 @@
 use borrow.Author.Needs.{needs}
 use Rattle.acknowledgment.proofs.answered.Statement.{statement}
 use Rattle.acknowledgment.proofs.answered.Tie as tie
-use mathlib.Core.Path.{_≡_, refl}
+use mathlib.Core.Path.{_≡_}
 use Rattle.flight.specs.declared.lost.Drop.the-variants.{Packet}
 
 enum-told : tie.Need-enum-told

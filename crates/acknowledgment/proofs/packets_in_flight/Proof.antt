@@ -2,7 +2,7 @@
 use borrow.Author.Needs.{needs}
 use Rattle.acknowledgment.proofs.packets_in_flight.Statement.{statement}
 use Rattle.acknowledgment.proofs.packets_in_flight.Tie as tie
-use mathlib.Core.Path.{_≡_, refl, sym, _∙_}
+use mathlib.Core.Path.{_≡_, sym, _∙_}
 use mathlib.Core.Bool.{true, false}
 use Prim.Native.Nat.{_≤_}
 use native.Mathlib.Omega.{arith}

@@ -2,7 +2,6 @@ use borrow.Author.Needs.{needs}
 use Rattle.arrivals.proofs.list_all.Statement.{statement}
 use Rattle.arrivals.proofs.list_all.Tie as tie
 use mathlib.Core.Path.{_≡_}
-use native.Mathlib.Omega.{arith}
 use lib.ListN.{length}
 
 abbrev Inv-loop : tie.InvT-loop

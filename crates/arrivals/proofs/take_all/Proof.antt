@@ -3,7 +3,6 @@ use Rattle.arrivals.proofs.take_all.Statement.{statement}
 use Rattle.arrivals.proofs.take_all.Tie as tie
 use mathlib.Core.Path.{_≡_}
 use Prim.Native.Nat.{_≤_, _-_}
-use native.Mathlib.Omega.{arith}
 use lib.ListN.{length}
 
 abbrev Inv-loop : tie.InvT-loop

@@ -2,7 +2,7 @@
 use borrow.Author.Needs.{needs}
 use Rattle.keys.proofs.at_home.Statement.{statement}
 use Rattle.keys.proofs.at_home.Tie as tie
-use mathlib.Core.Path.{_≡_, refl, sym, ap, _∙_}
+use mathlib.Core.Path.{_≡_, refl}
 use mathlib.Core.Logic.{⊎-elim}
 use Prim.Native.Nat.{ℕ, _-_, _%_, _<_, _≤_}
 use native.Mathlib.Omega.{arith}

@@ -1,7 +1,7 @@
 use borrow.Author.Needs.{needs}
 use Rattle.keys.proofs.find.Statement.{statement}
 use Rattle.keys.proofs.find.Tie as tie
-use mathlib.Core.Path.{_≡_, refl}
+use mathlib.Core.Path.{_≡_}
 use Prim.Native.Nat.{_+_, _-_, _≤_}
 use native.Mathlib.Omega.{arith}
 use lib.ListN.{length, getD, drop}

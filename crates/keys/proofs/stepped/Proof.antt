@@ -3,7 +3,7 @@ use borrow.Author.Needs.{needs}
 use Rattle.keys.proofs.stepped.Statement.{statement}
 use Rattle.keys.proofs.stepped.Tie as tie
 use mathlib.Core.Path.{_≡_, subst}
-use Prim.Native.Nat.{ℕ, _%_, _<_}
+use Prim.Native.Nat.{ℕ, _%_}
 use native.Mathlib.Nat.{mod-le, zero-add}
 use native.Mathlib.Omega.{arith}
 use lib.ListN.{length, getD}

@@ -1,8 +1,8 @@
 use borrow.Author.Needs.{needs}
 use Rattle.ordering.proofs.arrange.Statement.{statement}
 use Rattle.ordering.proofs.arrange.Tie as tie
-use mathlib.Core.Path.{_≡_, refl, sym, ap, _∙_}
-use Prim.Native.Nat.{ℕ, _-_, _*_}
+use mathlib.Core.Path.{_≡_, refl, sym, _∙_}
+use Prim.Native.Nat.{_-_}
 use native.Mathlib.Omega.{arith}
 use denote.Ref.{now}
 use Rattle.ordering.specs.State.{State, lending}

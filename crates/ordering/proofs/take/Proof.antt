@@ -1,13 +1,13 @@
 use borrow.Author.Needs.{needs}
 use Rattle.ordering.proofs.take.Statement.{statement}
 use Rattle.ordering.proofs.take.Tie as tie
-use mathlib.Core.Path.{_≡_, refl, sym, ap, _∙_}
-use Prim.Native.Nat.{ℕ, _-_, _*_}
+use mathlib.Core.Path.{_≡_, refl, sym, _∙_}
+use Prim.Native.Nat.{_-_}
 use native.Mathlib.Omega.{arith}
 use denote.Ref.{now}
 use Rattle.ordering.specs.State.{State, lending}
 use Rattle.terms.specs.declared.Gate.the-variants.{Open, Shut}
-use Rattle.ordering.proofs.Gates.{Opened, opened}
+use Rattle.ordering.proofs.Gates.{opened}
 use Rattle.ordering.proofs.Calls.{take-shut, take-open}
 
 abbrev whole : tie.Start → State

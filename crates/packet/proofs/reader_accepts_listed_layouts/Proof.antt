@@ -1,5 +1,4 @@
 -- The theorem is `accepts`.
-use borrow.Author.Needs.{needs}
 use Rattle.packet.proofs.reader_accepts_listed_layouts.Statement.{statement}
 use Rattle.packet.proofs.reader_accepts_listed_layouts.Tie as tie
 use Rattle.packet.proofs.Theorems.{accepts}

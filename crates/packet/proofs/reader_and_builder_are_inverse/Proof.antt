@@ -1,5 +1,4 @@
 -- The theorem is `inverse`.
-use borrow.Author.Needs.{needs}
 use Rattle.packet.proofs.reader_and_builder_are_inverse.Statement.{statement}
 use Rattle.packet.proofs.reader_and_builder_are_inverse.Tie as tie
 use Rattle.packet.proofs.Theorems.{inverse}

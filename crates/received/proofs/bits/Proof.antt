@@ -2,7 +2,7 @@
 use borrow.Author.Needs.{needs}
 use Rattle.received.proofs.bits.Statement.{statement}
 use Rattle.received.proofs.bits.Tie as tie
-use mathlib.Core.Path.{_≡_, refl, sym, ap, _∙_}
+use mathlib.Core.Path.{_≡_, ap, _∙_}
 use mathlib.Core.Logic.{⊎-elim}
 use Prim.Native.Nat.{ℕ, _+_, _-_, _%_, _≤_, _<_}
 use native.Mathlib.Nat.{mod-lt}

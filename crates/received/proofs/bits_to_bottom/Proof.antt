@@ -1,6 +1,5 @@
 use borrow.Author.Needs.{needs}
 use borrow.Author.Tests.{lt-ltb, le-ltb}
-use native.Mathlib.Omega.{arith}
 use Rattle.received.proofs.bits_to_bottom.Statement.{statement}
 use Rattle.received.proofs.bits_to_bottom.Tie as tie
 

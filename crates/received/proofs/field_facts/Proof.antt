@@ -1,5 +1,4 @@
 -- The theorem is `facts`.
-use borrow.Author.Needs.{needs}
 use Rattle.received.proofs.field_facts.Statement.{statement}
 use Rattle.received.proofs.field_facts.Tie as tie
 use Rattle.received.proofs.Facts.{facts}

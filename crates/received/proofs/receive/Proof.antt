@@ -2,11 +2,11 @@
 use borrow.Author.Needs.{needs}
 use Rattle.received.proofs.receive.Statement.{statement}
 use Rattle.received.proofs.receive.Tie as tie
-use mathlib.Core.Path.{_≡_, refl, ap}
+use mathlib.Core.Path.{_≡_, ap}
 use mathlib.Core.List.{List, _++_}
 use Prim.Native.Nat.{ℕ}
 use lib.Seq.{length-take-le}
-use lib.ListN.{length, drop}
+use lib.ListN.{drop}
 use denote.Ref.{now}
 use native.Mathlib.Omega.{arith}
 use Rattle.sequence_buffer.specs.Buffer.{inserted}

@@ -1,8 +1,7 @@
 use borrow.Author.Needs.{needs}
 use Rattle.sequence_buffer.proofs.advance_sequence.Statement.{statement}
 use Rattle.sequence_buffer.proofs.advance_sequence.Tie as tie
-use mathlib.Core.Path.{_≡_, refl, sym, ap, _∙_}
-use mathlib.Core.Bool.{true, false}
+use mathlib.Core.Path.{_≡_, sym, ap, _∙_}
 use mathlib.Core.List.{map}
 use Prim.Native.Nat.{ℕ}
 use lib.Dec.{leb}

@@ -1,7 +1,7 @@
 use borrow.Author.Needs.{needs}
 use Rattle.sequence_buffer.proofs.exists.Statement.{statement}
 use Rattle.sequence_buffer.proofs.exists.Tie as tie
-use mathlib.Core.Path.{_≡_, refl}
+use mathlib.Core.Path.{_≡_}
 use lib.Dec.{eqb}
 use lib.ListN.{getD}
 use denote.Ref.{now}

@@ -1,7 +1,7 @@
 use borrow.Author.Needs.{needs}
 use Rattle.sequence_buffer.proofs.insert.Statement.{statement}
 use Rattle.sequence_buffer.proofs.insert.Tie as tie
-use mathlib.Core.Path.{_≡_, refl, sym, _∙_}
+use mathlib.Core.Path.{sym, _∙_}
 use Rattle.sequence_buffer.specs.Buffer.{inserted, insertedNum, insertedSlots}
 
 too-old-requires : tie.Need-too-old-requires

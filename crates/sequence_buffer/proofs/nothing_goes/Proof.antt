@@ -2,7 +2,7 @@
 use borrow.Author.Needs.{needs}
 use Rattle.sequence_buffer.proofs.nothing_goes.Statement.{statement}
 use Rattle.sequence_buffer.proofs.nothing_goes.Tie as tie
-use mathlib.Core.Path.{_≡_, refl, sym}
+use mathlib.Core.Path.{refl}
 use Rattle.laws.proofs.Cases.{both, off}
 use denote.Ref.{now}
 use Rattle.sequence_buffer.proofs.Passes.{none-go}

@@ -1,7 +1,7 @@
 use borrow.Author.Needs.{needs}
 use Rattle.sequence_buffer.proofs.remove.Statement.{statement}
 use Rattle.sequence_buffer.proofs.remove.Tie as tie
-use mathlib.Core.Path.{_≡_, refl, sym, _∙_}
+use mathlib.Core.Path.{_≡_, sym}
 use borrow.Author.Tests.{eq-eqb, ne-eqb}
 use mathlib.Core.Bool.{true, false}
 use native.Mathlib.Omega.{arith}

@@ -1,7 +1,7 @@
 use borrow.Author.Needs.{needs}
 use Rattle.sequence_buffer.proofs.too_old.Statement.{statement}
 use Rattle.sequence_buffer.proofs.too_old.Tie as tie
-use mathlib.Core.Path.{_≡_, refl, sym, ap, _∙_}
+use mathlib.Core.Path.{ap, _∙_}
 use Prim.Native.Nat.{ℕ}
 use Rattle.serial.specs.Order.{greater}
 

@@ -1,7 +1,6 @@
 use borrow.Author.Needs.{needs}
 use Rattle.sequencing.proofs.arrange.Statement.{statement}
 use Rattle.sequencing.proofs.arrange.Tie as tie
-use mathlib.Core.Path.{sym}
 use borrow.Author.Tests.{le-leb, lt-leb}
 use Rattle.sequencing.specs.Sequence.{sequenceOf}
 

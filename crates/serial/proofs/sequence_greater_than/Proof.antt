@@ -1,5 +1,5 @@
 -- Each way out has the tests that led there; `half` says what the first half of the `||` is where its ways meet.
-use mathlib.Core.Path.{_≡_, refl, _∙_}
+use mathlib.Core.Path.{_≡_, _∙_}
 use mathlib.Core.Bool.{_&&_}
 use mathlib.Core.Logic.{⊎-elim}
 use Prim.Native.Nat.{_-_}

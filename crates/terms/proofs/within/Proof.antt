@@ -1,4 +1,3 @@
-use borrow.Author.Needs.{needs}
 use Rattle.terms.proofs.within.Statement.{statement}
 use Rattle.terms.proofs.within.Tie as tie
 use Prim.Native.Nat.{_≤_, _<_}

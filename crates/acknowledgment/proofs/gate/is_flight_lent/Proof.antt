@@ -1,7 +1,6 @@
 -- The two ways of the `&&`.
 use Rattle.acknowledgment.proofs.gate.is_flight_lent.Statement.{statement}
 use Rattle.acknowledgment.proofs.gate.is_flight_lent.Tie as tie
-use mathlib.Core.Path.{refl}
 use borrow.Author.Tests.{le-leb, lt-leb}
 use Rattle.acknowledgment.specs.Gate.{flightLent}
 

@@ -2,7 +2,6 @@
 use borrow.Author.Needs.{needs}
 use Rattle.acknowledgment.proofs.gate.is_lent.Statement.{statement}
 use Rattle.acknowledgment.proofs.gate.is_lent.Tie as tie
-use mathlib.Core.Path.{refl}
 use native.Mathlib.Omega.{arith}
 use native.Mathlib.Nat.{mul-le-mul}
 use borrow.Author.Tests.{le-leb, lt-leb}

@@ -1,7 +1,6 @@
 -- Each way out has the tests that led there.
 use Rattle.acknowledgment.proofs.gate.is_too_long.Statement.{statement}
 use Rattle.acknowledgment.proofs.gate.is_too_long.Tie as tie
-use mathlib.Core.Path.{refl}
 use borrow.Author.Tests.{lt-ltb, le-ltb}
 use Rattle.acknowledgment.specs.Gate.{tooLong}
 

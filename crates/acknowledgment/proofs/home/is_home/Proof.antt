@@ -5,7 +5,6 @@ use Rattle.acknowledgment.proofs.home.is_home.Tie as tie
 use native.Mathlib.Omega.{arith}
 use lib.Seq.{length-take-le}
 use denote.Ref.{now}
-use Prim.Native.Nat.{_≤_}
 use mathlib.Core.Path.{_≡_}
 use lib.ListN.{length, take}
 use Rattle.terms.proofs.Ranges.{InRange, in-range-means}

@@ -2,7 +2,7 @@
 use borrow.Author.Needs.{needs}
 use Rattle.acknowledgment.proofs.steps.newer.Statement.{statement}
 use Rattle.acknowledgment.proofs.steps.newer.Tie as tie
-use mathlib.Core.Path.{_≡_, refl}
+use mathlib.Core.Path.{_≡_}
 use Rattle.serial.specs.Order.{greater}
 use Rattle.acknowledgment.specs.State.{newerOf}
 

@@ -3,8 +3,8 @@ use Rattle.arranging.proofs.ordered.judge.Statement.{statement}
 use Rattle.arranging.proofs.ordered.judge.Tie as tie
 use native.Mathlib.Omega.{arith}
 use native.Mathlib.Nat.{add-sub-cancel-left}
-use Prim.Native.Nat.{ℕ, _+_, _-_, _*_, _<_, _≤_}
-use mathlib.Core.Path.{_≡_, refl, sym, _∙_}
+use Prim.Native.Nat.{_+_, _-_, _*_, _<_}
+use mathlib.Core.Path.{_≡_, sym, _∙_}
 use lib.ListN.{length, take, drop}
 use denote.Ref.{now}
 use Rattle.ordering.specs.Arrange.{planOf}

@@ -3,10 +3,7 @@ use Rattle.arranging.proofs.ordered.perform.Statement.{statement}
 use Rattle.arranging.proofs.ordered.perform.Tie as tie
 use native.Mathlib.Omega.{arith}
 use native.Mathlib.Nat.{add-sub-cancel-left}
-use Prim.Native.Nat.{ℕ, _+_, _*_, _<_, _≤_}
-use mathlib.Core.Path.{_≡_, refl, sym, ap, _∙_}
-use lib.ListN.{length}
-use denote.Ref.{now}
+use Prim.Native.Nat.{_+_, _*_, _≤_}
 use Rattle.arranging.proofs.Parts.{block-end}
 
 -- the place's bytes end within the lent ones

@@ -2,9 +2,9 @@ use borrow.Author.Needs.{needs}
 use Rattle.arranging.proofs.ordered.sound.Statement.{statement}
 use Rattle.arranging.proofs.ordered.sound.Tie as tie
 use native.Mathlib.Omega.{arith}
-use Prim.Native.Nat.{ℕ, _-_, _≤_, _<_}
-use mathlib.Core.Path.{_≡_, refl, sym, ap, _∙_}
-use mathlib.Core.Bool.{true, false}
+use Prim.Native.Nat.{ℕ, _-_, _≤_}
+use mathlib.Core.Path.{_≡_, sym, ap, _∙_}
+use mathlib.Core.Bool.{true}
 use denote.Ref.{now}
 use Rattle.laws.proofs.Cases.{on, off}
 use Rattle.arranging.specs.Ids.{soundIds}

@@ -3,8 +3,8 @@ use Rattle.arranging.proofs.ordered.take_next.Statement.{statement}
 use Rattle.arranging.proofs.ordered.take_next.Tie as tie
 use native.Mathlib.Omega.{arith}
 use native.Mathlib.Nat.{add-sub-cancel-left}
-use Prim.Native.Nat.{ℕ, _+_, _*_, _<_, _≤_}
-use mathlib.Core.Path.{_≡_, refl, sym, ap, _∙_}
+use Prim.Native.Nat.{_+_, _*_, _<_, _≤_}
+use mathlib.Core.Path.{_≡_, refl, sym}
 use lib.ListN.{length}
 use denote.Ref.{now}
 use Rattle.arranging.specs.Ids.{placeOf}

@@ -2,7 +2,6 @@
 use borrow.Author.Needs.{needs}
 use Rattle.flight.proofs.acked.without_acked.Statement.{statement}
 use Rattle.flight.proofs.acked.without_acked.Tie as tie
-use mathlib.Core.Path.{refl}
 use Prim.Native.Nat.{_≤_, _<_}
 use native.Mathlib.Omega.{arith}
 use borrow.Author.Tests.{lt-ltb, le-ltb, le-leb, lt-leb, eq-eqb, ne-eqb}

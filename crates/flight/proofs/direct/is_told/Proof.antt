@@ -2,7 +2,6 @@
 use borrow.Author.Needs.{needs}
 use Rattle.flight.proofs.direct.is_told.Statement.{statement}
 use Rattle.flight.proofs.direct.is_told.Tie as tie
-use mathlib.Core.Path.{refl}
 use borrow.Author.Tests.{eq-eqb, ne-eqb}
 
 returns : tie.Need-returns

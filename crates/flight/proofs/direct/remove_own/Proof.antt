@@ -3,7 +3,6 @@ use borrow.Author.Needs.{needs}
 use Rattle.flight.proofs.direct.remove_own.Statement.{statement}
 use Rattle.flight.proofs.direct.remove_own.Tie as tie
 use native.Mathlib.Nat.{mod-lt}
-use native.Mathlib.Omega.{arith}
 use Prim.Native.Nat.{_%_, _<_}
 use lib.ListN.{length}
 use denote.Ref.{now}

@@ -5,7 +5,6 @@ use Rattle.flight.proofs.home.first_number.Tie as tie
 use Prim.Native.Nat.{_-_, _≤_}
 use native.Mathlib.Omega.{arith}
 use lib.ListN.{length}
-use denote.Ref.{now}
 
 abbrev Inv-loop : tie.InvT-loop
 Inv-loop number i₀ i = i ≤ length number

@@ -2,7 +2,6 @@ use borrow.Author.Needs.{needs}
 use Rattle.flight.proofs.home.follows.Statement.{statement}
 use Rattle.flight.proofs.home.follows.Tie as tie
 use mathlib.Core.Path.{refl}
-use native.Mathlib.Omega.{arith}
 use Rattle.laws.proofs.Cases.{both}
 
 returns : tie.Need-returns

@@ -1,4 +1,3 @@
-use borrow.Author.Needs.{needs}
 use Rattle.flight.proofs.home.nearer.Statement.{statement}
 use Rattle.flight.proofs.home.nearer.Tie as tie
 use mathlib.Core.Path.{refl}

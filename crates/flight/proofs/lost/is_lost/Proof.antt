@@ -2,7 +2,7 @@
 use borrow.Author.Needs.{needs}
 use Rattle.flight.proofs.lost.is_lost.Statement.{statement}
 use Rattle.flight.proofs.lost.is_lost.Tie as tie
-use mathlib.Core.Path.{_≡_, refl}
+use mathlib.Core.Path.{_≡_}
 use lib.Dec.{ltb}
 use borrow.Author.Tests.{lt-ltb, le-ltb}
 use Rattle.flight.specs.Lost.{isLost}

@@ -1,5 +1,4 @@
 -- A part that starts at a multiple of its length.
-use borrow.Author.Needs.{needs}
 use Rattle.flight.proofs.lost.is_none_lost_before.Statement.{statement}
 use Rattle.flight.proofs.lost.is_none_lost_before.Tie as tie
 use mathlib.Core.Path.{_≡_, refl, subst}

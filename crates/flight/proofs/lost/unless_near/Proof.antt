@@ -3,13 +3,11 @@ use borrow.Author.Needs.{needs}
 use Rattle.flight.proofs.lost.unless_near.Statement.{statement}
 use Rattle.flight.proofs.lost.unless_near.Tie as tie
 use mathlib.Core.Path.{_≡_}
-use mathlib.Core.Bool.{false}
 use mathlib.Core.Logic.{⊎-elim}
-use Prim.Native.Nat.{ℕ, _+_, _%_, _≤_, _<_}
+use Prim.Native.Nat.{ℕ, _+_, _%_, _<_}
 use native.Mathlib.Omega.{arith}
 use Rattle.laws.proofs.Cases.{lt-or-le}
 use Rattle.serial.specs.Order.{back}
-use Rattle.flight.specs.Lost.{isLost}
 use Rattle.flight.proofs.Loops.{no-lost, near-kept, after-kept}
 
 before-is : (w entry remote : ℕ) → (w + entry) % 4294967296 ≡ remote → w < 4294967296 → entry < 65536 → remote < 65536 → w % 65536 ≡ back remote entry

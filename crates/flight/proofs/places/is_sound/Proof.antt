@@ -2,7 +2,6 @@
 use borrow.Author.Needs.{needs}
 use Rattle.flight.proofs.places.is_sound.Statement.{statement}
 use Rattle.flight.proofs.places.is_sound.Tie as tie
-use mathlib.Core.Path.{refl}
 use Rattle.flight.specs.Places.{sound}
 
 is-over-long-requires : tie.Need-is-over-long-requires

@@ -2,7 +2,6 @@
 use borrow.Author.Needs.{needs}
 use Rattle.flight.proofs.places.place.Statement.{statement}
 use Rattle.flight.proofs.places.place.Tie as tie
-use mathlib.Core.Path.{refl}
 use Prim.Native.Nat.{ℕ, _%_, _≤_, _<_}
 use native.Mathlib.Nat.{mod-lt}
 use native.Mathlib.Omega.{arith}

@@ -1,7 +1,7 @@
 use borrow.Author.Needs.{needs}
 use Rattle.keys.proofs.marks.has_twice.Statement.{statement}
 use Rattle.keys.proofs.marks.has_twice.Tie as tie
-use mathlib.Core.Path.{_≡_, refl, sym, ap, _∙_}
+use mathlib.Core.Path.{_≡_, sym, ap, _∙_}
 use mathlib.Core.Logic.{⊎-elim}
 use Prim.Native.Nat.{ℕ, _-_, _*_, _/_, _%_, _^_, _<_, _≤_}
 use native.Mathlib.Omega.{arith}

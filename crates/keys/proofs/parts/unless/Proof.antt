@@ -1,5 +1,4 @@
 -- Each way out is a case.
-use borrow.Author.Needs.{needs}
 use Rattle.keys.proofs.parts.unless.Statement.{statement}
 use Rattle.keys.proofs.parts.unless.Tie as tie
 use mathlib.Core.Logic.{inl, inr}

@@ -4,7 +4,7 @@ use borrow.Author.Needs.{needs}
 use Rattle.keys.proofs.wide.without.Statement.{statement}
 use Rattle.keys.proofs.wide.without.Tie as tie
 use mathlib.Core.Path.{_≡_, sym, ap, ap₂, _∙_}
-use Prim.Native.Nat.{ℕ, _+_, _*_, _/_, _%_, _^_, _≤_, _<_}
+use Prim.Native.Nat.{ℕ, _+_, _*_, _/_, _%_, _<_}
 use native.Mathlib.Nat.{zero-add, mod-lt, div-add-mod'}
 use native.Mathlib.Omega.{arith}
 use lib.Bits.{bitXor, xor-block, xor-lt, xor-zero-r}

@@ -1,9 +1,8 @@
 use borrow.Author.Needs.{needs}
 use Rattle.ordering.proofs.gate.check.Statement.{statement}
 use Rattle.ordering.proofs.gate.check.Tie as tie
-use mathlib.Core.Path.{_≡_, refl, sym, ap, _∙_}
-use mathlib.Core.Bool.{true, false, not}
-use native.Mathlib.Omega.{arith}
+use mathlib.Core.Path.{_≡_, sym, _∙_}
+use mathlib.Core.Bool.{true, false}
 use denote.Ref.{now}
 use Rattle.laws.proofs.Cases.{on, off}
 use Rattle.terms.specs.Sizes.{inRange}

@@ -1,7 +1,7 @@
 use borrow.Author.Needs.{needs}
 use Rattle.ordering.proofs.gate.sound.Statement.{statement}
 use Rattle.ordering.proofs.gate.sound.Tie as tie
-use mathlib.Core.Path.{_≡_, refl, sym, ap, _∙_}
+use mathlib.Core.Path.{sym, ap}
 use mathlib.Core.Bool.{not}
 use native.Mathlib.Omega.{arith}
 use lib.Seq.{length-take-le}

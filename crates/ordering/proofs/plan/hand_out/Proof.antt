@@ -1,7 +1,7 @@
 use borrow.Author.Needs.{needs}
 use Rattle.ordering.proofs.plan.hand_out.Statement.{statement}
 use Rattle.ordering.proofs.plan.hand_out.Tie as tie
-use mathlib.Core.Path.{_≡_, refl, sym, ap, _∙_}
+use mathlib.Core.Path.{_≡_, ap, _∙_}
 use mathlib.Core.List.{List, _++_}
 use Prim.Native.Nat.{ℕ}
 use lib.ListN.{length, drop}

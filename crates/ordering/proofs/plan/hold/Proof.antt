@@ -1,10 +1,10 @@
 use borrow.Author.Needs.{needs}
 use Rattle.ordering.proofs.plan.hold.Statement.{statement}
 use Rattle.ordering.proofs.plan.hold.Tie as tie
-use mathlib.Core.Path.{_≡_, refl, sym, ap, _∙_}
+use mathlib.Core.Path.{refl}
 use native.Mathlib.Omega.{arith}
 use lib.ListN.{length}
-use Prim.Native.Nat.{_*_, _<_}
+use Prim.Native.Nat.{_*_}
 use denote.Ref.{now}
 use Rattle.ordering.proofs.Places.{place-end, place-room, copied-in}
 

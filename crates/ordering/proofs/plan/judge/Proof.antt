@@ -1,7 +1,7 @@
 use borrow.Author.Needs.{needs}
 use Rattle.ordering.proofs.plan.judge.Statement.{statement}
 use Rattle.ordering.proofs.plan.judge.Tie as tie
-use mathlib.Core.Path.{_≡_, sym, _∙_}
+use mathlib.Core.Path.{sym, _∙_}
 use native.Mathlib.Omega.{arith}
 use lib.Seq.{length-take-le}
 use denote.Ref.{now}

@@ -1,10 +1,8 @@
 use borrow.Author.Needs.{needs}
 use Rattle.ordering.proofs.plan.perform.Statement.{statement}
 use Rattle.ordering.proofs.plan.perform.Tie as tie
-use mathlib.Core.Path.{_≡_, refl, sym, ap, _∙_}
-use native.Mathlib.Omega.{arith}
-use lib.ListN.{length}
-use Prim.Native.Nat.{_*_, _<_}
+use mathlib.Core.Path.{_≡_, refl, sym, _∙_}
+use Prim.Native.Nat.{_<_}
 use denote.Ref.{now}
 use Rattle.ordering.specs.declared.Arranged.the-variants.{Out, Held, Old, Refused}
 use Rattle.ordering.proofs.Planned.{held-place}

@@ -2,7 +2,7 @@ use borrow.Author.Needs.{needs}
 use Rattle.ordering.proofs.taking.move_down.Statement.{statement}
 use Rattle.ordering.proofs.taking.move_down.Tie as tie
 use native.Mathlib.Omega.{arith}
-use Prim.Native.Nat.{ℕ, _+_, _-_, _≤_}
+use Prim.Native.Nat.{_-_, _≤_}
 use mathlib.Core.Path.{_≡_, refl}
 use lib.ListN.{drop, length, length-set}
 use lib.Seq.{paste, paste-zero}

@@ -1,11 +1,10 @@
 use borrow.Author.Needs.{needs}
 use Rattle.ordering.proofs.taking.take_next.Statement.{statement}
 use Rattle.ordering.proofs.taking.take_next.Tie as tie
-use mathlib.Core.Path.{_≡_, refl, sym, ap, _∙_}
+use mathlib.Core.Path.{_≡_, refl, sym, _∙_}
 use Prim.Native.Nat.{ℕ, _+_, _-_, _*_}
 use mathlib.Core.List.{List, _++_}
 use native.Mathlib.Omega.{arith}
-use native.Mathlib.Nat.{add-sub-cancel-left}
 use lib.ListN.{length, getD, take, drop}
 use lib.Seq.{length-take-le}
 use denote.Ref.{now}

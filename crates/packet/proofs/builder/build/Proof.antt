@@ -2,8 +2,8 @@
 use borrow.Author.Needs.{needs}
 use Rattle.packet.proofs.builder.build.Statement.{statement}
 use Rattle.packet.proofs.builder.build.Tie as tie
-use mathlib.Core.Path.{_≡_, refl, sym, _∙_}
-use Prim.Native.Nat.{ℕ, _+_, _≤_, _<_}
+use mathlib.Core.Path.{_≡_, _∙_}
+use Prim.Native.Nat.{_+_, _≤_, _<_}
 use lib.ListN.{length}
 use native.Mathlib.Omega.{arith}
 use borrow.Author.Tests.{lt-ltb, le-ltb}

@@ -3,7 +3,7 @@ use borrow.Author.Needs.{needs}
 use Rattle.packet.proofs.numbers.read_u16.Statement.{statement}
 use Rattle.packet.proofs.numbers.read_u16.Tie as tie
 use Rattle.packet.proofs.Width.{joined}
-use mathlib.Core.Path.{refl, sym}
+use mathlib.Core.Path.{sym}
 
 read-u8-requires : tie.Need-read-u8-requires
 read-u8-requires c κs = search needs

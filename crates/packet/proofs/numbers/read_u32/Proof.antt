@@ -3,7 +3,7 @@ use borrow.Author.Needs.{needs}
 use Rattle.packet.proofs.numbers.read_u32.Statement.{statement}
 use Rattle.packet.proofs.numbers.read_u32.Tie as tie
 use Rattle.packet.proofs.Width.{joined}
-use mathlib.Core.Path.{refl, sym}
+use mathlib.Core.Path.{sym}
 
 read-u16-requires : tie.Need-read-u16-requires
 read-u16-requires c κs = search needs

@@ -3,7 +3,7 @@ use borrow.Author.Needs.{needs}
 use Rattle.packet.proofs.numbers.read_u8.Statement.{statement}
 use Rattle.packet.proofs.numbers.read_u8.Tie as tie
 use Rattle.packet.proofs.Width.{one}
-use mathlib.Core.Path.{refl, sym}
+use mathlib.Core.Path.{sym}
 
 shared-slice-read-result : tie.Need-shared-slice-read-result
 shared-slice-read-result c = search needs

@@ -5,7 +5,6 @@ use Rattle.packet.proofs.numbers.write_u8.Tie as tie
 use Rattle.packet.proofs.Output.{stored}
 use Rattle.packet.specs.Numbers.{bytes}
 use native.Mathlib.Nat.{mod-eq-of-lt}
-use mathlib.Core.Path.{refl}
 
 slice-write-output : tie.Need-slice-write-output
 slice-write-output c = search needs

@@ -2,7 +2,6 @@
 use borrow.Author.Needs.{needs}
 use Rattle.packet.proofs.reader.is_unknown.Statement.{statement}
 use Rattle.packet.proofs.reader.is_unknown.Tie as tie
-use mathlib.Core.Path.{refl}
 use borrow.Author.Tests.{eq-eqb, ne-eqb, le-leb, lt-leb}
 use Rattle.packet.specs.Read.{unknown}
 

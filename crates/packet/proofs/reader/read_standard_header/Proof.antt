@@ -2,7 +2,6 @@
 use borrow.Author.Needs.{needs}
 use Rattle.packet.proofs.reader.read_standard_header.Statement.{statement}
 use Rattle.packet.proofs.reader.read_standard_header.Tie as tie
-use mathlib.Core.Path.{refl}
 
 read-u8-requires : tie.Need-read-u8-requires
 read-u8-requires c κs = search needs

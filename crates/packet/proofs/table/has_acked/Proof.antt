@@ -2,7 +2,6 @@
 use borrow.Author.Needs.{needs}
 use Rattle.packet.proofs.table.has_acked.Statement.{statement}
 use Rattle.packet.proofs.table.has_acked.Tie as tie
-use mathlib.Core.Path.{refl}
 
 enum-told : tie.Need-enum-told
 enum-told c = search needs

@@ -2,7 +2,7 @@
 use borrow.Author.Needs.{needs}
 use Rattle.packet.proofs.table.headers_after.Statement.{statement}
 use Rattle.packet.proofs.table.headers_after.Tie as tie
-use mathlib.Core.Path.{refl, _∙_}
+use mathlib.Core.Path.{_∙_}
 use native.Mathlib.Omega.{arith}
 use Rattle.laws.proofs.Tabled.{at}
 use Rattle.packet.specs.Table.{follows, typeOf, deliveryOf, orderingOf}

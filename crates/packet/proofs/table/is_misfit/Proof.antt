@@ -2,7 +2,6 @@
 use borrow.Author.Needs.{needs}
 use Rattle.packet.proofs.table.is_misfit.Statement.{statement}
 use Rattle.packet.proofs.table.is_misfit.Tie as tie
-use mathlib.Core.Path.{refl}
 use Rattle.laws.proofs.Cases.{on, off}
 use Rattle.packet.specs.Read.{misfit}
 

@@ -2,7 +2,6 @@
 use borrow.Author.Needs.{needs}
 use Rattle.packet.proofs.table.payload_at.Statement.{statement}
 use Rattle.packet.proofs.table.payload_at.Tie as tie
-use mathlib.Core.Path.{refl}
 use native.Mathlib.Omega.{arith}
 use Rattle.packet.proofs.Lengths.{size-most}
 

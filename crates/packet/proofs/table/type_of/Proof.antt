@@ -1,8 +1,6 @@
 -- Each arm knows the number, or that it is none of those before.
-use borrow.Author.Needs.{needs}
 use Rattle.packet.proofs.table.type_of.Statement.{statement}
 use Rattle.packet.proofs.table.type_of.Tie as tie
-use mathlib.Core.Path.{refl}
 use borrow.Author.Tests.{ne-eqb}
 use Rattle.packet.specs.Table.{typeOf}
 

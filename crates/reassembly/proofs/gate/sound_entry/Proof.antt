@@ -1,7 +1,7 @@
 use borrow.Author.Needs.{needs}
 use Rattle.reassembly.proofs.gate.sound_entry.Statement.{statement}
 use Rattle.reassembly.proofs.gate.sound_entry.Tie as tie
-use mathlib.Core.Path.{_≡_, sym, _∙_}
+use mathlib.Core.Path.{sym, _∙_}
 use native.Mathlib.Nat.{mul-le-mul}
 use native.Mathlib.Omega.{arith}
 use Rattle.laws.proofs.Cases.{on, off}

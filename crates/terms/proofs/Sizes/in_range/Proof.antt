@@ -1,7 +1,6 @@
 use borrow.Author.Needs.{needs}
 use Rattle.terms.proofs.Sizes.in_range.Statement.{statement}
 use Rattle.terms.proofs.Sizes.in_range.Tie as tie
-use mathlib.Core.Path.{refl}
 use Rattle.laws.proofs.Cases.{on, off}
 use Rattle.terms.specs.Sizes.{inRange}
 

@@ -2,9 +2,9 @@ use borrow.Author.Needs.{needs}
 use Rattle.arranging.proofs.ids.StreamIds.place.Statement.{statement}
 use Rattle.arranging.proofs.ids.StreamIds.place.Tie as tie
 use native.Mathlib.Omega.{arith}
-use Prim.Native.Nat.{ℕ, _+_, _-_, _≤_, _<_}
-use mathlib.Core.Path.{_≡_, refl, sym, ap, _∙_}
-use lib.ListN.{take, drop, length, getD}
+use Prim.Native.Nat.{_+_, _-_, _≤_}
+use mathlib.Core.Path.{_≡_, sym, _∙_}
+use lib.ListN.{take, drop, length}
 use lib.Seq.{length-take-le, getD-take}
 use Rattle.keys.specs.Keys.{firstPlace}
 use Rattle.keys.proofs.Places.{first-here, first-past, first-end}

@@ -2,9 +2,8 @@ use borrow.Author.Needs.{needs}
 use Rattle.arranging.proofs.ids.StreamIds.sound.Statement.{statement}
 use Rattle.arranging.proofs.ids.StreamIds.sound.Tie as tie
 use native.Mathlib.Omega.{arith}
-use Prim.Native.Nat.{ℕ, _+_, _-_, _≤_, _<_}
-use mathlib.Core.Path.{_≡_, refl, sym, ap, _∙_}
-use mathlib.Core.Bool.{true, false}
+use Prim.Native.Nat.{ℕ, _-_, _≤_, _<_}
+use mathlib.Core.Path.{_≡_, sym, _∙_}
 use native.Mathlib.Nat.{not-suc-le-zero}
 use lib.ListN.{take, length, getD}
 use lib.Seq.{length-take-le, getD-take}

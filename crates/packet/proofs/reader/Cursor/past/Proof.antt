@@ -2,7 +2,6 @@
 use borrow.Author.Needs.{needs}
 use Rattle.packet.proofs.reader.Cursor.past.Statement.{statement}
 use Rattle.packet.proofs.reader.Cursor.past.Tie as tie
-use mathlib.Core.Path.{refl}
 use Prim.Native.Nat.{_+_, _≤_, _<_}
 use lib.ListN.{length}
 use borrow.Author.Tests.{le-leb, lt-leb}
