@@ -2,10 +2,11 @@
 --     count-more     one more number has it
 --     count-ones     the set digits of a number, counted by place
 --     all-at, all-of, all-not     what `allBelow` says, number by number
-use mathlib.Core.Path.{_≡_, refl, sym, ap, _∙_}
+--     from-less      what holds from i on, and at i - 1, holds from there on
+use mathlib.Core.Path.{_≡_, refl, sym, ap, _∙_, subst}
 use mathlib.Core.Bool.{Bool, true, false, cond, _||_, or-false, or-true}
 use mathlib.Core.Logic.{⊎-elim}
-use Prim.Native.Nat.{ℕ, zero, suc, _+_, _/_, _%_, _^_, _≤_, _<_}
+use Prim.Native.Nat.{ℕ, zero, suc, _+_, _-_, _/_, _%_, _^_, _≤_, _<_}
 use native.Mathlib.Nat.{not-suc-le-zero, mod-lt, mod-eq-of-lt, mod-one, div-one}
 use native.Mathlib.Omega.{arith}
 use lib.Count.{ones, ones-cat}
@@ -58,14 +59,6 @@ pub count-ones : (x : ℕ) → x < 65536 → ones x ≡ countBelow (bit x) 16
 count-ones x h = ap ones (sym (mod-eq-of-lt {n = x} {m = 2 ^ 16} h)) ∙ ones-low x 16
 
 module _ (p : ℕ → Bool) where
-  pub all-none : allBelow p 0 ≡ true
-  unfolding allBelow
-  all-none = refl
-
-  pub all-more : (n : ℕ) → allBelow p n ≡ true → p n ≡ true → allBelow p (suc n) ≡ true
-  unfolding allBelow
-  all-more n a e = rw (a, e)
-
   pub all-of : (n : ℕ) → ((j : ℕ) → j < n → p j ≡ true) → allBelow p n ≡ true
   unfolding allBelow
   all-of zero h = refl
@@ -82,6 +75,9 @@ module _ (p : ℕ → Bool) where
 
   pub all-at : (n j : ℕ) → allBelow p n ≡ true → j < n → p j ≡ true
   all-at n j a h = case (p j) (λ e. e) (λ e. both a (all-not n j h e))
+
+pub from-less : (P : ℕ → Type 0) (n i : ℕ) → ((k : ℕ) → i ≤ k → k < n → P k) → P (i - 1) → (k : ℕ) → i - 1 ≤ k → k < n → P k
+from-less P n i all here k l h = ⊎-elim (λ m. let e : i - 1 ≡ k = omega arith in subst P e here) (λ m. all k m h) (lt-or-le k i)
 
 -- the lowest bit, as it is tested
 pub bit-zero : (x : ℕ) → bit x 0 ≡ eqb (x % 2) 1

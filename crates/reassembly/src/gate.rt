@@ -70,13 +70,13 @@ pub fn sound(f: usize, slots: &[u32], entry: &[u64]) -> bool
     ensures { λ r. ⌜ r ≡ soundness f (now (slots .entry)) (now (entry .entry)) ⌝ }
 {
     let mut home = true;
-    let mut i: usize = 0;
-    while i < slots.len() {
+    let mut i = slots.len();
+    while 0 < i {
+        i -= 1;
         if !sound_beside(f, slots[i], entry[i]) {
             return false;
         }
         home = stays_home(home, slots[i], i, slots.len());
-        i += 1;
     }
     if home {
         return true;
