@@ -3,7 +3,7 @@ ghost use mathlib.Core.Path.{_≡_};
 ghost use mathlib.Core.Bool.{true, false, not};
 ghost use Prim.Native.Nat.{_≤_};
 ghost use lib.ListN.{length};
-ghost use Rattle.received.specs.Record.{slotCount, slotsOf, KnownTurned};
+ghost use Rattle.received.specs.Record.{slotCount, slotsOf, KnownLapped};
 ghost use Rattle.keys.specs.Keys.{twice};
 ghost use Rattle.terms.specs.Sizes.{inRange};
 ghost use Rattle.flight.specs.AtHome.{AtHome};
@@ -26,13 +26,13 @@ pub fn is_home(sizes: Sizes, next: PacketNumber, number: &[u32], records: &[u64]
     )
 }
 
-// The slots of the received record follow each other but for one place. A `false` says nothing. Requires the record's slots.
-pub fn is_turned(received: &[u32]) -> bool
+// The slots of the received record stand in laps. A `false` says nothing. Requires the record's slots.
+pub fn is_lapped(received: &[u32]) -> bool
     requires { ⌜ slotCount ≤ length (now received) ⌝ }
-    ensures { λ r. ⌜ KnownTurned r (now (received .entry)) ⌝ }
+    ensures { λ r. ⌜ KnownLapped r (now (received .entry)) ⌝ }
     ensures { λ r. ⌜ (r ≡ true → twice (slotsOf (now (received .entry))) ≡ false) ⌝ }
 {
-    keys::turn::is_turned(&received[..received::SLOTS])
+    keys::laps::is_lapped(&received[..received::SLOTS])
 }
 
 // Not 13, knowing whether the packets in flight are at home. Requires sizes in range, and what is lent to be as long as stated.
@@ -46,19 +46,19 @@ pub fn is_sound(
     requires { ⌜ (inRange sizes ≡ true) × (slotCount ≤ length (now received)) × (sizes .«packets_in_flight» ≤ length (now number)) × (sizes .«packets_in_flight» ≤ length (now records)) × («at_home» ≡ true → AtHome (slotOf sizes) (tableOf sizes (now number)) (now records)) ⌝ }
     ensures { λ r. ⌜ r ≡ sound sizes (now (received .entry)) (now (number .entry)) (now (records .entry)) ⌝ }
 {
-    let turned = is_turned(received);
-    if !is_record_sound(received, turned) {
+    let lapped = is_lapped(received);
+    if !is_record_sound(received, lapped) {
         return false;
     }
     is_flight_sound(sizes, number, records, at_home)
 }
 
-// No received number stands twice. Where the slots were seen to follow each other, that is known. Requires the record's slots.
-pub fn is_record_sound(received: &[u32], turned: bool) -> bool
-    requires { ⌜ (slotCount ≤ length (now received)) × (turned ≡ true → twice (slotsOf (now received)) ≡ false) ⌝ }
+// No received number stands twice. Where the slots were seen to stand in laps, that is known. Requires the record's slots.
+pub fn is_record_sound(received: &[u32], lapped: bool) -> bool
+    requires { ⌜ (slotCount ≤ length (now received)) × (lapped ≡ true → twice (slotsOf (now received)) ≡ false) ⌝ }
     ensures { λ r. ⌜ r ≡ not (twice (slotsOf (now (received .entry)))) ⌝ }
 {
-    if turned {
+    if lapped {
         return true;
     }
     !keys::has_twice(&received[..received::SLOTS])

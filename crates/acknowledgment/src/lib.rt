@@ -230,9 +230,9 @@ pub fn ack_bitfield(sizes: Sizes, state: Acknowledgment, received: &[u32]) -> Ac
     if received.len() < received::SLOTS {
         return AckBitfield::Refused(Refusal::BadStorage);
     }
-    let turned = home::is_turned(received);
-    if !home::is_record_sound(received, turned) {
+    let lapped = home::is_lapped(received);
+    if !home::is_record_sound(received, lapped) {
         return AckBitfield::Refused(Refusal::BadState);
     }
-    AckBitfield::Field(received::ack_bitfield(state.received, received, turned))
+    AckBitfield::Field(received::ack_bitfield(state.received, received, lapped))
 }

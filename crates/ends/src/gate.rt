@@ -4,7 +4,7 @@ ghost use mathlib.Core.Bool.{true, false};
 ghost use mathlib.Core.List.{[]};
 ghost use Prim.Native.Nat.{_≤_};
 ghost use lib.ListN.{length};
-ghost use Rattle.received.specs.Record.{KnownTurned};
+ghost use Rattle.received.specs.Record.{KnownLapped};
 ghost use Rattle.terms.specs.Sizes.{inRange};
 ghost use Rattle.terms.specs.declared.Gate.the-variants.{Open, Shut};
 ghost use Rattle.flight.specs.AtHome.{AtHome, KnownHome};
@@ -54,11 +54,11 @@ pub fn check(
 }
 
 // What the gate says, and two things that it may have seen, where a `false` says nothing: each packet in flight at its own
-// place, and the slots of the received record following each other but for one place.
+// place, and the slots of the received record in laps.
 pub struct Checked {
     pub gate: Gate,
     pub home: bool,
-    pub turned: bool,
+    pub lapped: bool,
 }
 
 // The same, with what it has seen on the way: a number in flight is then found without a walk, and the field mostly made
@@ -81,7 +81,7 @@ pub fn look(
 ) -> Checked
     ensures { λ r. ⌜ r .gate ≡ gateOf sizes (lending end (now (received .entry)) (now (number .entry)) (now (records .entry)) (now (payloads .entry)) (now (slots .entry)) (now (entry .entry)) (now (header .entry)) (now (joined .entry)) (now (index .entry)) (now (lengths .entry)) (now (held .entry))) (now (output .entry)) ⌝ }
     ensures { λ r. ⌜ KnownHome (r .home) (tableOf sizes (now (number .entry))) ⌝ }
-    ensures { λ r. ⌜ KnownTurned (r .turned) (now (received .entry)) ⌝ }
+    ensures { λ r. ⌜ KnownLapped (r .lapped) (now (received .entry)) ⌝ }
 {
     if !sizes.in_range() {
         return shut(Refusal::BadSizes);
@@ -117,30 +117,30 @@ pub fn look(
     ) {
         return shut(Refusal::BadState);
     }
-    let turned = acknowledgment::home::is_turned(received);
-    if !acknowledgment::home::is_record_sound(received, turned) {
+    let lapped = acknowledgment::home::is_lapped(received);
+    if !acknowledgment::home::is_record_sound(received, lapped) {
         return shut(Refusal::BadState);
     }
-    open(home, turned)
+    open(home, lapped)
 }
 
-fn open(home: bool, turned: bool) -> Checked
-    ensures { λ r. ⌜ r ≡ record { gate = Open; home = home; turned = turned } ⌝ }
+fn open(home: bool, lapped: bool) -> Checked
+    ensures { λ r. ⌜ r ≡ record { gate = Open; home = home; lapped = lapped } ⌝ }
 {
     Checked {
         gate: Gate::Open,
         home,
-        turned,
+        lapped,
     }
 }
 
 fn shut(why: Refusal) -> Checked
-    ensures { λ r. ⌜ r ≡ record { gate = Shut why; home = false; turned = false } ⌝ }
+    ensures { λ r. ⌜ r ≡ record { gate = Shut why; home = false; lapped = false } ⌝ }
 {
     Checked {
         gate: Gate::Shut(why),
         home: false,
-        turned: false,
+        lapped: false,
     }
 }
 

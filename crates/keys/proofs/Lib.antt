@@ -3,4 +3,4 @@ pub mod First
 pub mod Twice
 pub mod KeySet
 pub mod Homes
-pub mod Breaks
+pub mod Lapped

@@ -1,4 +1,4 @@
 pub mod Keys
 pub mod Exact
 pub mod Home
-pub mod Breaks
+pub mod Laps

@@ -7,9 +7,9 @@ ghost use Prim.Native.Nat.{_<_};
 ghost use Rattle.keys.specs.Exact.{TwiceIsExact};
 ghost use Rattle.keys.specs.Home.{OwnBelow};
 
+pub mod laps;
 mod marks;
 pub mod parts;
-pub mod turn;
 pub mod wide;
 
 // The first place of a key, or the column's length where it has none.

@@ -82,7 +82,7 @@ pub fn send(
         payload,
         output,
         checked.home,
-        checked.turned,
+        checked.lapped,
     )
 }
 
@@ -149,7 +149,7 @@ pub fn resend(
         payload,
         output,
         checked.home,
-        checked.turned,
+        checked.lapped,
     )
 }
 
@@ -245,6 +245,6 @@ pub fn fragment(
         j,
         output,
         checked.home,
-        checked.turned,
+        checked.lapped,
     )
 }

@@ -67,6 +67,6 @@ pub fn report(
         packets_in_flight: flight::places::count(&number[..sizes.packets_in_flight]),
         local_sequence_num,
         remote_sequence_num: acks.remote_sequence_num(),
-        ack_bitfield: received::ack_bitfield(acks.received, received, checked.turned),
+        ack_bitfield: received::ack_bitfield(acks.received, received, checked.lapped),
     })
 }

@@ -1,3 +1,3 @@
 pub mod Facts
-pub mod Walk
-pub mod Whole
+pub mod Cleared
+pub mod Turned

@@ -2,7 +2,7 @@
 use mathlib.Core.Path.{_≡_}
 use mathlib.Core.Bool.{Bool}
 use mathlib.Core.List.{List}
-use Prim.Native.Nat.{ℕ, _+_, _-_, _%_, _^_, _≤_, _<_}
+use Prim.Native.Nat.{ℕ, _+_, _-_, _^_, _≤_, _<_}
 use Rattle.laws.specs.Bits.{bit, bitsBelow}
 use Rattle.serial.specs.Order.{back}
 use Rattle.sequence_buffer.specs.Buffer.{fresh, holds}
@@ -19,10 +19,6 @@ heard newest slots k = holds slots (back newest (k + 1))
 -- "Bit i - 1 says that newest - i is in the buffer, i = 1..32."
 unfoldable pub fieldOf : ℕ → List ℕ → ℕ
 fieldOf num slots = bitsBelow (heard (newestOf num) slots) 32
-
--- the numbers of the bits from one to another stand in slots one below the other: that of bit k at top - k
-pub record Downwards (newest top from to : ℕ) : Type 0 where
-  pub each : (k : ℕ) → from ≤ k → k < to → (k ≤ top) × (top - k ≡ back newest (k + 1) % slotCount)
 
 pub record FieldFacts : Type 0 where
   -- each bit, for every buffer

@@ -2,9 +2,9 @@
 use mathlib.Core.Path.{_≡_}
 use mathlib.Core.Bool.{Bool, true}
 use mathlib.Core.List.{List, _++_}
-use Prim.Native.Nat.{ℕ, _≤_}
+use Prim.Native.Nat.{ℕ}
 use lib.ListN.{take, drop}
-use Rattle.keys.specs.Breaks.{breaksIn}
+use Rattle.keys.specs.Laps.{Lapped}
 use Rattle.sequence_buffer.specs.Buffer.{insertedSlots}
 
 -- "33 slots"
@@ -19,6 +19,6 @@ slotsOf received = take slotCount received
 abbrev pub recorded : ℕ → List ℕ → ℕ → List ℕ
 recorded num received n = insertedSlots num (slotsOf received) n ++ drop slotCount received
 
--- the slots were seen to follow each other but for one place; where it is false nothing is said
-abbrev pub KnownTurned : Bool → List ℕ → Type 0
-KnownTurned turned received = turned ≡ true → breaksIn (slotsOf received) 32 ≤ 1
+-- the slots were seen to stand in laps; where it is false nothing is said
+abbrev pub KnownLapped : Bool → List ℕ → Type 0
+KnownLapped lapped received = lapped ≡ true → Lapped (slotsOf received)

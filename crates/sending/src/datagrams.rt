@@ -2,7 +2,7 @@
 ghost use mathlib.Core.Path.{_≡_};
 ghost use Prim.Native.Nat.{_≤_, _<_};
 ghost use lib.ListN.{length, take};
-ghost use Rattle.received.specs.Record.{slotCount, KnownTurned};
+ghost use Rattle.received.specs.Record.{slotCount, KnownLapped};
 ghost use Rattle.packet.specs.Table.{follows};
 ghost use Rattle.packet.specs.Build.{Writes};
 ghost use Rattle.sending.specs.Datagrams.{ackedFor, typeFor, standardFor, headersFor, datagramFor, countOf, Room};
@@ -30,9 +30,9 @@ pub fn first(
     received: &[u32],
     payload: &[u8],
     output: &mut [u8],
-    turned: bool,
+    lapped: bool,
 ) -> usize
-    requires { ⌜ (slotCount ≤ length (now received)) × (1 ≤ f) × (f ≤ 1024) × (countOf f (length (now payload)) < 256) × Room (headersFor f item id acks (now received) (length (now payload))) (take f (now payload)) (now output) × KnownTurned turned (now received) ⌝ }
+    requires { ⌜ (slotCount ≤ length (now received)) × (1 ≤ f) × (f ≤ 1024) × (countOf f (length (now payload)) < 256) × Room (headersFor f item id acks (now received) (length (now payload))) (take f (now payload)) (now output) × KnownLapped lapped (now received) ⌝ }
     ensures { λ r. ⌜ Writes (datagramFor version f item id acks (now (received .entry)) (now (payload .entry))) (now (output .entry)) r (now (output .exit)) ⌝ }
 {
     let following = table::headers_after(standard(f, item, payload.len()));
@@ -44,7 +44,7 @@ pub fn first(
         acks,
         received,
         payload.len(),
-        turned,
+        lapped,
     );
     builder::write(version, following, headers, first_piece(f, payload), output)
 }
@@ -58,9 +58,9 @@ fn headers(
     acks: Acknowledgment,
     received: &[u32],
     size: usize,
-    turned: bool,
+    lapped: bool,
 ) -> Headers
-    requires { ⌜ (following ≡ follows (standardFor f item size)) × (slotCount ≤ length (now received)) × (1 ≤ f) × (f ≤ 1024) × (countOf f size < 256) × KnownTurned turned (now received) ⌝ }
+    requires { ⌜ (following ≡ follows (standardFor f item size)) × (slotCount ≤ length (now received)) × (1 ≤ f) × (f ≤ 1024) × (countOf f size < 256) × KnownLapped lapped (now received) ⌝ }
     ensures { λ r. ⌜ r ≡ headersFor f item id acks (now (received .entry)) size ⌝ }
 {
     let number = acks.sequence_number;
@@ -71,7 +71,7 @@ fn headers(
             id: 0,
             count: count(f, size) as u8,
         },
-        acked: acknowledge(following, 0, number, acks, received, turned),
+        acked: acknowledge(following, 0, number, acks, received, lapped),
         arranging: ArrangingHeader {
             index: id,
             stream: item.stream,
@@ -87,16 +87,16 @@ pub fn acknowledge(
     number: PacketNumber,
     acks: Acknowledgment,
     received: &[u32],
-    turned: bool,
+    lapped: bool,
 ) -> AckedPacketHeader
-    requires { ⌜ (slotCount ≤ length (now received)) × KnownTurned turned (now received) ⌝ }
+    requires { ⌜ (slotCount ≤ length (now received)) × KnownLapped lapped (now received) ⌝ }
     ensures { λ r. ⌜ r ≡ ackedFor following id number acks (now (received .entry)) ⌝ }
 {
     if table::has_acked(following, id) {
         return AckedPacketHeader {
             number,
             acked: acks.remote_sequence_num(),
-            field: received::ack_bitfield(acks.received, received, turned),
+            field: received::ack_bitfield(acks.received, received, lapped),
         };
     }
     AckedPacketHeader {

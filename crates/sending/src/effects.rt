@@ -2,7 +2,7 @@
 ghost use mathlib.Core.Path.{_≡_};
 ghost use Prim.Native.Nat.{_+_, _*_, _≤_, _<_};
 ghost use lib.ListN.{length};
-ghost use Rattle.received.specs.Record.{KnownTurned};
+ghost use Rattle.received.specs.Record.{KnownLapped};
 ghost use Rattle.sending.specs.Send.{identifiedOf, sequencedAs, orderedAs, keptBy, Keeping, recordOf, SendReady, Performs};
 use crate::Answer;
 use crate::Identifier;
@@ -41,9 +41,9 @@ pub fn perform(
     sending: Sending,
     payload: &[u8],
     output: &mut [u8],
-    turned: bool,
+    lapped: bool,
 ) -> Sent
-    requires { ⌜ SendReady sizes end (now received) (now number) (now records) (now payloads) item sending (now payload) (now output) × KnownTurned turned (now received) ⌝ }
+    requires { ⌜ SendReady sizes end (now received) (now number) (now records) (now payloads) item sending (now payload) (now output) × KnownLapped lapped (now received) ⌝ }
     ensures { λ r. ⌜ Performs sizes end (now (received .entry)) (now (number .entry)) (now (records .entry)) (now (payloads .entry)) item sending (now (payload .entry)) (now (output .entry)) r (now (number .exit)) (now (records .exit)) (now (payloads .exit)) (now (output .exit)) ⌝ }
 {
     let f = sizes.fragment_size;
@@ -64,7 +64,7 @@ pub fn perform(
         received,
         payload,
         output,
-        turned,
+        lapped,
     );
     let datagrams = datagrams::count(f, payload.len());
     let acks = keep(item, id, acks, f, at, number, records, payloads, payload);

@@ -7,7 +7,7 @@ ghost use Rattle.flight.specs.AtHome.{KnownHome};
 ghost use Rattle.acknowledgment.specs.State.{tableOf};
 ghost use Rattle.ends.specs.State.{lending};
 ghost use Rattle.ends.specs.Gate.{gateOf};
-ghost use Rattle.received.specs.Record.{slotCount, KnownTurned};
+ghost use Rattle.received.specs.Record.{slotCount, KnownLapped};
 ghost use Rattle.packet.specs.Table.{follows};
 ghost use Rattle.sending.specs.Further.{fragmentStandard, furtherOf, furtherOutput, furtherHeaders};
 use crate::datagrams;
@@ -55,9 +55,9 @@ pub fn fragment(
     j: usize,
     output: &mut [u8],
     home: bool,
-    turned: bool,
+    lapped: bool,
 ) -> Further
-    requires { ⌜ (gateOf sizes (lending end (now received) (now number) (now records) (now payloads) (now slots) (now entry) (now header) (now joined) (now index) (now lengths) (now held)) (now output) ≡ Open) × KnownHome home (tableOf sizes (now number)) × KnownTurned turned (now received) ⌝ }
+    requires { ⌜ (gateOf sizes (lending end (now received) (now number) (now records) (now payloads) (now slots) (now entry) (now header) (now joined) (now index) (now lengths) (now held)) (now output) ≡ Open) × KnownHome home (tableOf sizes (now number)) × KnownLapped lapped (now received) ⌝ }
     ensures { λ r. ⌜ r ≡ furtherOf sizes (end .acks) (now (received .entry)) (now (number .entry)) (now (records .entry)) (now (payloads .entry)) (packet .0) j ⌝ }
     ensures { λ _. ⌜ now (output .exit) ≡ furtherOutput sizes (end .acks) (now (received .entry)) (now (number .entry)) (now (records .entry)) (now (payloads .entry)) (packet .0) j (now (output .entry)) ⌝ }
 {
@@ -78,7 +78,7 @@ pub fn fragment(
     let start = at * (16 * f);
     let piece = splitter::fragment(&payloads[start..start + count], f, j);
     let following = table::headers_after(standard());
-    let headers = headers(following, end.acks, received, packet, j, total, turned);
+    let headers = headers(following, end.acks, received, packet, j, total, lapped);
     Further::Datagram(builder::write(sizes.version, following, headers, piece, output))
 }
 
@@ -100,9 +100,9 @@ fn headers(
     number: PacketNumber,
     j: usize,
     total: usize,
-    turned: bool,
+    lapped: bool,
 ) -> Headers
-    requires { ⌜ (following ≡ follows fragmentStandard) × (slotCount ≤ length (now received)) × (j < 256) × (total < 256) × KnownTurned turned (now received) ⌝ }
+    requires { ⌜ (following ≡ follows fragmentStandard) × (slotCount ≤ length (now received)) × (j < 256) × (total < 256) × KnownLapped lapped (now received) ⌝ }
     ensures { λ r. ⌜ r ≡ furtherHeaders acks (now (received .entry)) number j total ⌝ }
 {
     let id = j as u8;
@@ -113,7 +113,7 @@ fn headers(
             id,
             count: total as u8,
         },
-        acked: datagrams::acknowledge(following, id, number, acks, received, turned),
+        acked: datagrams::acknowledge(following, id, number, acks, received, lapped),
         arranging: ArrangingHeader {
             index: ItemId(0),
             stream: 0,

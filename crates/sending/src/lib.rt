@@ -3,7 +3,7 @@
 // (effects.rt). It leaves out when to send again, and the users' calls with their gate, which are `link`.
 ghost use mathlib.Core.Path.{_≡_};
 ghost use Rattle.terms.specs.declared.Gate.the-variants.{Open};
-ghost use Rattle.received.specs.Record.{KnownTurned};
+ghost use Rattle.received.specs.Record.{KnownLapped};
 ghost use Rattle.flight.specs.AtHome.{KnownHome};
 ghost use Rattle.acknowledgment.specs.State.{tableOf};
 ghost use Rattle.ends.specs.State.{lending};
@@ -56,7 +56,7 @@ pub struct Sent {
 }
 
 // An item is sent. For the crates above: requires an end that the gate lets through, and what is said of it: packets in
-// flight at home, a record whose slots follow each other.
+// flight at home, a record in laps.
 pub fn transmit(
     sizes: Sizes,
     end: End,
@@ -75,9 +75,9 @@ pub fn transmit(
     payload: &[u8],
     output: &mut [u8],
     home: bool,
-    turned: bool,
+    lapped: bool,
 ) -> Sent
-    requires { ⌜ (gateOf sizes (lending end (now received) (now number) (now records) (now payloads) (now slots) (now entry) (now header) (now joined) (now index) (now lengths) (now held)) (now output) ≡ Open) × KnownHome home (tableOf sizes (now number)) × KnownTurned turned (now received) ⌝ }
+    requires { ⌜ (gateOf sizes (lending end (now received) (now number) (now records) (now payloads) (now slots) (now entry) (now header) (now joined) (now index) (now lengths) (now held)) (now output) ≡ Open) × KnownHome home (tableOf sizes (now number)) × KnownLapped lapped (now received) ⌝ }
     ensures { λ r. ⌜ Sends (transmittedOf sizes (lending end (now (received .entry)) (now (number .entry)) (now (records .entry)) (now (payloads .entry)) (now (slots .entry)) (now (entry .entry)) (now (header .entry)) (now (joined .entry)) (now (index .entry)) (now (lengths .entry)) (now (held .entry))) item (now (payload .entry)) (now (output .entry)))
         r (now (received .entry)) (now (number .exit)) (now (records .exit)) (now (payloads .exit)) (now (slots .entry)) (now (entry .entry)) (now (header .entry)) (now (joined .entry)) (now (index .entry)) (now (lengths .entry)) (now (held .entry)) (now (output .exit)) ⌝ }
 {
@@ -108,7 +108,7 @@ pub fn transmit(
             sending,
             payload,
             output,
-            turned,
+            lapped,
         ),
     }
 }

@@ -39,8 +39,8 @@ returns-2 : tie.Need-returns-2
 unfolding toldOf
 returns-2 c = rw (in-range (c .before), lt-leb _ _ (c .if2 .taken))
 
-is-turned-requires : tie.Need-is-turned-requires
-is-turned-requires c κs = search needs
+is-lapped-requires : tie.Need-is-lapped-requires
+is-lapped-requires c κs = search needs
 
 is-record-sound-requires : tie.Need-is-record-sound-requires
 is-record-sound-requires c κs = search needs
@@ -50,7 +50,7 @@ unfolding toldOf
 returns-3 c = rw (le-leb _ _ (c .before .before .before .if2 .left), sym (judged (c .before)) ∙ off (c .before .is-record-sound .result) (c .if3 .taken)) (sym (unsound _ NotTold (Field 0) (in-range (c .before .before .before .before))))
 
 ack-bitfield-requires : tie.Need-ack-bitfield-requires
-ack-bitfield-requires c κs = (c .before .before .before .if2 .left, c .before .before .is-turned .ensures .0)
+ack-bitfield-requires c κs = (c .before .before .before .if2 .left, c .before .before .is-lapped .ensures .0)
 
 returns-4 : tie.Need-returns-4
 unfolding toldOf
@@ -63,7 +63,7 @@ ack-bitfield-spec =
     in-range-requires
     returns
     returns-2
-    is-turned-requires
+    is-lapped-requires
     is-record-sound-requires
     returns-3
     ack-bitfield-requires

@@ -1,4 +1,4 @@
--- Slots that follow each other have no number twice.
+-- Slots in laps have no number twice.
 use borrow.Author.Needs.{needs}
 use Rattle.acknowledgment.proofs.home.is_record_sound.Statement.{statement}
 use Rattle.acknowledgment.proofs.home.is_record_sound.Tie as tie

@@ -6,8 +6,8 @@ use mathlib.Core.Path.{sym, _∙_}
 use Rattle.laws.proofs.Cases.{on, off}
 use Rattle.acknowledgment.specs.Gate.{sound}
 
-is-turned-requires : tie.Need-is-turned-requires
-is-turned-requires c κs = search needs
+is-lapped-requires : tie.Need-is-lapped-requires
+is-lapped-requires c κs = search needs
 
 is-record-sound-requires : tie.Need-is-record-sound-requires
 is-record-sound-requires c κs = search needs
@@ -27,7 +27,7 @@ pub is-sound-spec : {M : Type 1} → statement M
 is-sound-spec =
     tie.close
     (tie.spec
-    is-turned-requires
+    is-lapped-requires
     is-record-sound-requires
     returns
     is-flight-sound-requires

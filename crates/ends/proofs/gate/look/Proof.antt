@@ -1,5 +1,5 @@
 -- 1, 2 and 13 rung by rung; what is lent is long enough for 13 to be tried. What is known of the packets in flight and of
--- the received record is what `is_home` and `is_turned` saw.
+-- the received record is what `is_home` and `is_lapped` saw.
 use borrow.Author.Needs.{needs}
 use Rattle.ends.proofs.gate.look.Statement.{statement}
 use Rattle.ends.proofs.gate.look.Tie as tie
@@ -48,14 +48,14 @@ record-is : (c : tie.After-is-record-sound) → RecordSound (c .before .before .
 record-is c = sym (c .is-record-sound .ensures)
 
 -- a gate that is shut knows nothing
-gate-of : (r : Checked) (g : Gate) (h t : Bool) → r ≡ record { gate = g; home = h; turned = t } → r .gate ≡ g
+gate-of : (r : Checked) (g : Gate) (h t : Bool) → r ≡ record { gate = g; home = h; lapped = t } → r .gate ≡ g
 gate-of r g h t e = ap (λ (x : Checked). x .gate) e
 
-home-of : (r : Checked) (g : Gate) (h t : Bool) → r ≡ record { gate = g; home = h; turned = t } → r .home ≡ h
+home-of : (r : Checked) (g : Gate) (h t : Bool) → r ≡ record { gate = g; home = h; lapped = t } → r .home ≡ h
 home-of r g h t e = ap (λ (x : Checked). x .home) e
 
-turned-of : (r : Checked) (g : Gate) (h t : Bool) → r ≡ record { gate = g; home = h; turned = t } → r .turned ≡ t
-turned-of r g h t e = ap (λ (x : Checked). x .turned) e
+lapped-of : (r : Checked) (g : Gate) (h t : Bool) → r ≡ record { gate = g; home = h; lapped = t } → r .lapped ≡ t
+lapped-of r g h t e = ap (λ (x : Checked). x .lapped) e
 
 in-range-requires : tie.Need-in-range-requires
 in-range-requires c κs = search needs
@@ -68,7 +68,7 @@ returns c =
     let s = c .before .before .before .before .before .before .before .before .before .before .before .before .before .before .before in
     let e = c .shut .ensures in (
       gate-of _ _ _ _ e ∙ sym (gate-sizes (s .args .sizes) (whole s) (out s) (sym (c .before .before .in-range .ensures) ∙ off (c .before .before .in-range .result) (c .before .if1 .taken))),
-      (λ h. both h (home-of _ _ _ _ e), λ h. both h (turned-of _ _ _ _ e)),
+      (λ h. both h (home-of _ _ _ _ e), λ h. both h (lapped-of _ _ _ _ e)),
     )
 
 is-lent-requires : tie.Need-is-lent-requires
@@ -82,7 +82,7 @@ returns-2 c =
     let s = c .before .before .before .before .before .before .before .before .before .before .before .before .before .before .before .before .before in
     let e = c .shut2 .ensures in (
       gate-of _ _ _ _ e ∙ sym (gate-storage (s .args .sizes) (whole s) (out s) (ranged (c .before .before .before)) (no-counters (s .args .sizes) (whole s) (out s) ∙ sym (c .before .before .is-lent .ensures) ∙ off (c .before .before .is-lent .result) (c .before .if2 .taken))),
-      (λ h. both h (home-of _ _ _ _ e), λ h. both h (turned-of _ _ _ _ e)),
+      (λ h. both h (home-of _ _ _ _ e), λ h. both h (lapped-of _ _ _ _ e)),
     )
 
 is-home-requires : tie.Need-is-home-requires
@@ -106,18 +106,18 @@ returns-3 c =
     let e = c .shut3 .ensures in
     let r = c .before .before in (
       gate-of _ _ _ _ e ∙ sym (gate-state (s .args .sizes) (whole s) (out s) (ranged (c .before .before .before .before .before .before)) (stored (c .before .before .before .before)) (rest-unsound (s .args .sizes) (whole s) (rest r ∙ off (r .is-sound .result) (c .before .if3 .taken)))),
-      (λ h. both h (home-of _ _ _ _ e), λ h. both h (turned-of _ _ _ _ e)),
+      (λ h. both h (home-of _ _ _ _ e), λ h. both h (lapped-of _ _ _ _ e)),
     )
 
-is-turned-requires : tie.Need-is-turned-requires
-is-turned-requires c κs =
+is-lapped-requires : tie.Need-is-lapped-requires
+is-lapped-requires c κs =
     let s = c .before .before .before .before .before .before .before .before .before .before .before .before .before .before .before .before .before .before .before in
     stored-means (s .args .sizes) (whole s) (out s) (stored (c .before .before .before)) .acks .slots
 
 is-record-sound-requires : tie.Need-is-record-sound-requires
 is-record-sound-requires c κs =
     let s = c .before .before .before .before .before .before .before .before .before .before .before .before .before .before .before .before .before .before .before .before in
-    (stored-means (s .args .sizes) (whole s) (out s) (stored (c .before .before .before .before)) .acks .slots, c .is-turned .ensures .1)
+    (stored-means (s .args .sizes) (whole s) (out s) (stored (c .before .before .before .before)) .acks .slots, c .is-lapped .ensures .1)
 
 shut-requires-4 : tie.Need-shut-requires-4
 shut-requires-4 c κs = search needs
@@ -128,7 +128,7 @@ returns-4 c =
     let e = c .shut4 .ensures in
     let r = c .before .before in (
       gate-of _ _ _ _ e ∙ sym (gate-state (s .args .sizes) (whole s) (out s) (ranged (c .before .before .before .before .before .before .before .before .before)) (stored (c .before .before .before .before .before .before .before)) (record-unsound (s .args .sizes) (whole s) (record-is r ∙ off (r .is-record-sound .result) (c .before .if4 .taken)))),
-      (λ h. both h (home-of _ _ _ _ e), λ h. both h (turned-of _ _ _ _ e)),
+      (λ h. both h (home-of _ _ _ _ e), λ h. both h (lapped-of _ _ _ _ e)),
     )
 
 open-requires : tie.Need-open-requires
@@ -141,7 +141,7 @@ returns-5 c =
     let r = c .before .before .before .before .before in
     let t = c .before .before in (
       gate-of _ _ _ _ e ∙ sym (opens (s .args .sizes) (whole s) (out s) (ranged (c .before .before .before .before .before .before .before .before .before)) (stored (c .before .before .before .before .before .before .before)) (both-sound (s .args .sizes) (whole s) (record-is t ∙ on (t .is-record-sound .result) (c .before .if4 .left)) (rest r ∙ on (r .is-sound .result) (c .before .before .before .before .if3 .left)))),
-      (λ h. (some (c .before .before .before .before .before .before .before), c .before .before .before .before .before .before .is-home .ensures (sym (home-of _ _ _ _ e) ∙ h) .home), λ h. c .before .before .before .is-turned .ensures .0 (sym (turned-of _ _ _ _ e) ∙ h)),
+      (λ h. (some (c .before .before .before .before .before .before .before), c .before .before .before .before .before .before .is-home .ensures (sym (home-of _ _ _ _ e) ∙ h) .home), λ h. c .before .before .before .is-lapped .ensures .0 (sym (lapped-of _ _ _ _ e) ∙ h)),
     )
 
 pub look-spec : {M : Type 1} → statement M
@@ -158,7 +158,7 @@ look-spec =
     is-sound-requires
     shut-requires-3
     returns-3
-    is-turned-requires
+    is-lapped-requires
     is-record-sound-requires
     shut-requires-4
     returns-4
