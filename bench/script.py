@@ -1,8 +1,9 @@
 """The scripts of calls that both sides of bench/run perform: the kinds of step are those of crates/bench/src/script.rt.
 
 A round is: an item is sent, all its datagrams; a packet comes, all its datagrams; of an ordered stream what may be taken is, until
-none. A packet that comes has the number of the one just sent. It acknowledges the oldest packet in flight, and tells of every
-number before that as received. The row says which calls are counted.
+none. A packet that comes has the number of the one just sent, or, where packets are lost, a higher one: every seventh number never
+comes. It acknowledges the oldest packet in flight, and tells of every number before that as received. The row says which calls are
+counted.
 """
 import struct
 import sys
@@ -12,6 +13,8 @@ SEND, SEND_ORDERED, RECEIVE, TAKE, LOOK = range(5)
 # What of a step is counted.
 NONE, THE_CALL, THE_CHECK, THE_MARKS = range(4)
 VERSION, ALL_RECEIVED, FRAGMENTS = 21513, 0xFFFFFFFF, 16
+# Where packets are lost, so many come for each that does not.
+COME = 6
 # So many rounds of which nothing is counted come first: after them as many packets are in flight as are to be.
 WARM = 300
 
@@ -35,6 +38,8 @@ class Row:
     swapped: bool = False
     parts_in: int = 1
     counts_in: bool = False
+    # Whether packets of the other end are lost.
+    lossy: bool = False
 
 
 EMPTY = Row("nothing")
@@ -69,11 +74,12 @@ def item(count):
 
 def datagram(row, number, place, part, others, f):
     """What comes, made as the other end would. Its place is that among the items of the ordered stream."""
-    acked = struct.pack(">HHI", number, (number - others) % 65536, ALL_RECEIVED)
+    theirs = number + number // COME + 1 if row.lossy else number
+    acked = struct.pack(">HHI", theirs, (number - others) % 65536, ALL_RECEIVED)
     ordering, arranging = (2, struct.pack(">HB", place ^ row.swapped, 0)) if row.ordered_in else (0, b"")
     if row.parts_in == 1:
         return struct.pack(">HBBB", VERSION, 0, 1, ordering) + acked + arranging + item(f)
-    fragment = struct.pack(">HBB", number, part, row.parts_in)
+    fragment = struct.pack(">HBB", theirs, part, row.parts_in)
     return struct.pack(">HBBB", VERSION, 1, 1, 0) + fragment + (acked if part == 0 else b"") + item(f)
 
 
@@ -102,7 +108,7 @@ def joined(sizes, steps):
 
 
 def script(row, rounds, sizes, others=0, check=False):
-    warming = [(Row("warming"), 0)] * WARM
+    warming = [(Row("warming", lossy=row.lossy), 0)] * WARM
     steps = []
     for number, (now, place) in enumerate(warming + [(row, place) for place in range(rounds)]):
         steps += round_of(now, number, place, others, sizes.f, check)
