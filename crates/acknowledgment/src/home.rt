@@ -26,7 +26,7 @@ pub fn is_home(sizes: Sizes, next: PacketNumber, number: &[u32], records: &[u64]
     )
 }
 
-// The slots of the received record stand in laps. A `false` says nothing. Requires the record's slots.
+// The slots of the received record stand in laps, as `keys::laps` sees it. A `false` says nothing. Requires the record's slots.
 pub fn is_lapped(received: &[u32]) -> bool
     requires { ⌜ slotCount ≤ length (now received) ⌝ }
     ensures { λ r. ⌜ KnownLapped r (now (received .entry)) ⌝ }
