@@ -19,7 +19,7 @@ use Rattle.laws.proofs.Slots.{slot-end}
 use Rattle.terms.specs.Sizes.{inRange}
 use Rattle.terms.specs.declared.Sizes.{Sizes}
 use Rattle.terms.proofs.Ranges.{in-range-means}
-use Rattle.sequence_buffer.specs.Buffer.{fresh, holds, removedSlots}
+use Rattle.sequence_buffer.specs.Buffer.{none, fresh, holds, removedSlots}
 use Rattle.splitter.specs.Split.{needed, splitOf}
 use Rattle.splitter.specs.declared.Split.the-variants.{Pieces}
 use Rattle.splitter.proofs.Pieces.{begins, piece-at, piece-count, piece-full, splits}
@@ -340,7 +340,7 @@ module _ (z : Sizes) (s : State) (outputs : ℕ → List ℕ) (n : ℕ) (h : Ack
       let long : j * z .«fragment_size» + length (pieceOf z payload j) ≡ length payload = all-joined j e in (
         rw (d, full, first, slot-is j t at l, header-there j t at l, header-again h (r .header-fits .0) (r .header-fits .1), long),
         rw (d, full, first, slot-is j t at l, long) (ap (λ (m : List ℕ). written m (outputs j)) (whole-bytes j t at l e)),
-        rw (next-slots j t at l, full, removed-one c n (in-range-means z (r .in-range) .c .0)) (take-at (fresh c) (drop c (t .slots)) c (length-replicate c 65536)),
+        rw (next-slots j t at l, full, removed-one c n (in-range-means z (r .in-range) .c .0)) (take-at (fresh c) (drop c (t .slots)) c (length-replicate c none)),
       )
 
 pub gives-back : GivesBack

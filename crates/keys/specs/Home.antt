@@ -9,11 +9,6 @@ use lib.ListN.{length, getD}
 abbrev pub InStep : ℕ → ℕ → ℕ → ℕ → Type 0
 InStep lap last place entry = entry < 65536 → (entry ≡ lap + place) ⊎ (entry ≡ last + place)
 
--- each key before a place stands at its own place
-pub record OwnBelow (n : ℕ) (l : List ℕ) : Type 0 where
-  pub within : n ≤ length l
-  pub own : (j : ℕ) → j < n → getD l j 0 < 65536 → getD l j 0 % length l ≡ j
-
 -- each key stands at its own place: its remainder by the column's length
 pub record Home (l : List ℕ) : Type 0 where
   pub own : (j : ℕ) → j < length l → getD l j 0 < 65536 → getD l j 0 % length l ≡ j

@@ -3,13 +3,12 @@
 ghost use mathlib.Core.Path.{_≡_};
 ghost use mathlib.Core.Bool.{true, false};
 ghost use Rattle.keys.specs.Keys.{firstPlace, twice};
-ghost use Prim.Native.Nat.{_<_};
 ghost use Rattle.keys.specs.Exact.{TwiceIsExact};
-ghost use Rattle.keys.specs.Home.{OwnBelow};
 
 pub mod laps;
 mod marks;
 pub mod parts;
+mod slots;
 pub mod wide;
 
 // The first place of a key, or the column's length where it has none.
@@ -39,11 +38,14 @@ pub fn has_twice(keys: &[u32]) -> bool
     marks::has_twice(keys)
 }
 
-// Each key stands at its remainder by the column's length, as a sequence buffer puts it.
+// Each key stands at its remainder by the column's length, as a sequence buffer puts it. A `false` says nothing.
 fn at_home(keys: &[u32]) -> bool
     ensures { λ r. ⌜ (r ≡ true → twice (now (keys .entry)) ≡ false) ⌝ }
 {
-    let mut i = stepped(keys);
+    if keys.len() == slots::SLOTS {
+        return slots::at_home(keys);
+    }
+    let mut i: usize = 0;
     while i < keys.len() {
         let key = keys[i];
         if key < 65536 {
@@ -54,39 +56,6 @@ fn at_home(keys: &[u32]) -> bool
         i += 1;
     }
     true
-}
-
-// How many entries from the first on are shown to stand so without a division for each: a part, where the keys follow each
-// other, as in a buffer that every number has come to. The first place then has the multiple that they go by.
-fn stepped(keys: &[u32]) -> usize
-    ensures { λ r. ⌜ OwnBelow r (now (keys .entry)) ⌝ }
-{
-    let n = keys.len();
-    if n < parts::PART {
-        return 0;
-    }
-    let lap = keys[0];
-    if lap >= 65536 {
-        return 0;
-    }
-    let last = lap_before(lap, n);
-    if lap as usize % n + last as usize % n != 0 {
-        return 0;
-    }
-    if parts::in_step(keys, 0, lap, last) {
-        return parts::PART;
-    }
-    0
-}
-
-fn lap_before(lap: u32, n: usize) -> u32
-    requires { ⌜ lap < 65536 ⌝ }
-    ensures { λ r. ⌜ r < 65536 ⌝ }
-{
-    if (lap as usize) < n {
-        return lap;
-    }
-    lap - n as u32
 }
 
 // Each entry is above the one before it, as items that wait for a lost one arrive.

@@ -11,7 +11,7 @@ use Rattle.sequence_buffer.specs.declared.Insertion.the-variants.{TooOld
 
 -- no number
 abbrev pub none : ℕ
-none = 65536
+none = 4294967295
 
 -- a buffer that has had no number; its `sequence_num` is 0
 abbrev pub fresh : ℕ → List ℕ

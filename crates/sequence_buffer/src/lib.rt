@@ -11,8 +11,9 @@ ghost use Rattle.sequence_buffer.specs.Buffer.{fresh, holds, tooOld, goe
 ghost use Rattle.sequence_buffer.specs.Facts.{SlotFacts};
 use serial::PacketNumber;
 
-// What stands in a slot with no number. Any value from 65,536 on is no number.
-pub const NONE: u32 = 65536;
+// What is written to a slot with no number. Any value from 65,536 on is none; this one has every bit, and so passes the tests
+// that keep only the bits which all entries have.
+pub const NONE: u32 = 4294967295;
 
 // What became of a number: too old, or it stands in a slot.
 pub enum Insertion {

@@ -5,6 +5,7 @@ use Rattle.keys.proofs.at_home.Tie as tie
 use mathlib.Core.Path.{_≡_, refl}
 use mathlib.Core.Logic.{⊎-elim}
 use Prim.Native.Nat.{ℕ, _-_, _%_, _<_, _≤_}
+use native.Mathlib.Nat.{not-suc-le-zero}
 use native.Mathlib.Omega.{arith}
 use borrow.Author.Count.{below-more}
 use lib.ListN.{length, getD}
@@ -18,11 +19,14 @@ Inv-loop keys i₀ i = (i ≤ length keys) × ((j : ℕ) → j < i → getD keys
 abbrev μ-loop : tie.MeasureT-loop
 μ-loop keys i₀ i = length keys - i
 
-stepped-requires : tie.Need-stepped-requires Inv-loop μ-loop
-stepped-requires c κs = search needs
+at-home-requires : tie.Need-at-home-requires Inv-loop μ-loop
+at-home-requires c κs = c .if1 .taken
+
+returns : tie.Need-returns Inv-loop μ-loop
+returns c = c .at-home .ensures
 
 loop-holds : tie.Need-loop-holds Inv-loop μ-loop
-loop-holds c = (c .stepped .ensures .within, c .stepped .ensures .own)
+loop-holds c = (omega arith, λ j h. absurd (not-suc-le-zero h))
 
 mul-key : tie.Need-mul-key Inv-loop μ-loop
 mul-key c = search needs
@@ -30,14 +34,14 @@ mul-key c = search needs
 shared-slice-read-key : tie.Need-shared-slice-read-key Inv-loop μ-loop
 shared-slice-read-key c = search needs
 
-cast-if2 : tie.Need-cast-if2 Inv-loop μ-loop
-cast-if2 c = search needs
+cast-if3 : tie.Need-cast-if3 Inv-loop μ-loop
+cast-if3 c = search needs
 
-rem-if2 : tie.Need-rem-if2 Inv-loop μ-loop
-rem-if2 c = search needs
+rem-if3 : tie.Need-rem-if3 Inv-loop μ-loop
+rem-if3 c = search needs
 
-returns : tie.Need-returns Inv-loop μ-loop
-returns c = λ e. both e refl
+returns-2 : tie.Need-returns-2 Inv-loop μ-loop
+returns-2 c = λ e. both e refl
 
 add-i : tie.Need-add-i Inv-loop μ-loop
 add-i c = search needs
@@ -53,10 +57,10 @@ loop-again c =
     ⊎-elim
     (λ w. (omega arith, below-more home (l .i) (l .inv .1) (λ k. w .1 .left)))
     (λ w. (omega arith, below-more home (l .i) (l .inv .1) (λ k. absurd (omega arith))))
-    (c .if1 .came)
+    (c .if2 .came)
 
-returns-2 : tie.Need-returns-2 Inv-loop μ-loop
-returns-2 c =
+returns-3 : tie.Need-returns-3 Inv-loop μ-loop
+returns-3 c =
     let keys = now (c .before .before .before .before .args .keys) in
     let home = c .before .loop .inv .1 in
     λ e. home-once keys (record { own = λ j h. home j (omega arith) })
@@ -67,14 +71,15 @@ at-home-spec =
     (tie.spec
     Inv-loop
     μ-loop
-    stepped-requires
+    at-home-requires
+    returns
     loop-holds
     mul-key
     shared-slice-read-key
-    cast-if2
-    rem-if2
-    returns
+    cast-if3
+    rem-if3
+    returns-2
     add-i
     loop-less
     loop-again
-    returns-2)
+    returns-3)

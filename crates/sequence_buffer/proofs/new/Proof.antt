@@ -7,9 +7,10 @@ use native.Mathlib.Omega.{arith}
 use lib.ListN.{length, length-set}
 use denote.Ref.{now}
 use Rattle.laws.proofs.Lists.{partly, partly-more, partly-all, map-const}
+use Rattle.sequence_buffer.specs.Buffer.{none}
 
 abbrev Inv-loop : tie.InvT-loop
-Inv-loop slots₀ i₀ slots i = (slots ≡ partly (λ (x : ℕ). 65536) i slots₀) × (i ≤ length slots₀) × (length slots ≡ length slots₀)
+Inv-loop slots₀ i₀ slots i = (slots ≡ partly (λ (x : ℕ). none) i slots₀) × (i ≤ length slots₀) × (length slots ≡ length slots₀)
 
 abbrev μ-loop : tie.MeasureT-loop
 μ-loop slots₀ i₀ slots i = length slots₀ - i
@@ -33,9 +34,9 @@ loop-again : tie.Need-loop-again Inv-loop μ-loop
 loop-again c =
     let s = now (c .before .before .args .slots) in
     let l = c .before .loop in (
-      partly-more (λ (x : ℕ). 65536) (l .i) s (l .slots) (l .inv .0) (omega arith),
+      partly-more (λ (x : ℕ). none) (l .i) s (l .slots) (l .inv .0) (omega arith),
       omega arith,
-      length-set (l .slots) (l .i) 65536 ∙ l .inv .2,
+      length-set (l .slots) (l .i) none ∙ l .inv .2,
     )
 
 same-length : tie.Need-same-length Inv-loop μ-loop
@@ -45,7 +46,7 @@ returns : tie.Need-returns Inv-loop μ-loop
 returns c =
     let s = now (c .before .before .args .slots) in
     let l = c .before .loop in
-    (refl, l .inv .0 ∙ partly-all (λ (x : ℕ). 65536) (l .i) s (omega arith) ∙ map-const 65536 s)
+    (refl, l .inv .0 ∙ partly-all (λ (x : ℕ). none) (l .i) s (omega arith) ∙ map-const none s)
 
 pub new-spec : {M : Type 1} → statement M
 new-spec =
