@@ -7,7 +7,7 @@ use Rattle.terms.specs.declared.Sizes.{Sizes}
 use Rattle.flight.specs.Lost.{numberLeft, outputLeft}
 use Rattle.flight.specs.declared.lost.Drop.{Drop}
 use Rattle.flight.specs.declared.lost.Drop.the-variants.{Nothing, Packet}
-use Rattle.acknowledgment.specs.State.{State, tableOf, slotOf}
+use Rattle.acks.specs.State.{State, tableOf, slotOf}
 use Rattle.acknowledgment.specs.Calls.{answeredBy, numberKept, outputKept}
 
 pub number-left : (d : Drop) (z : Sizes) (number part : List ℕ)

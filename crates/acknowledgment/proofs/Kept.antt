@@ -6,7 +6,7 @@ use lib.ListN.{length}
 use Rattle.terms.specs.declared.Sizes.{Sizes}
 use Rattle.terms.specs.declared.Refusal.{Refusal}
 use Rattle.flight.specs.declared.SentPacket.{SentPacket}
-use Rattle.acknowledgment.specs.State.{State}
+use Rattle.acks.specs.State.{State}
 use Rattle.acknowledgment.specs.Calls.{Incoming, incomingOf, Outgoing, outgoingOf, Dropping, droppedOf}
 use Rattle.acknowledgment.specs.declared.Processed.the-variants.{Refused}
 use Rattle.acknowledgment.specs.declared.DroppedPackets.the-variants.{Refused as NotDropped}

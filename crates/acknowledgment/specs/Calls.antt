@@ -2,24 +2,22 @@
 use Prim.Native.Nat.{ℕ, _+_, _*_}
 use mathlib.Core.Path.{_≡_}
 use mathlib.Core.Bool.{Bool, cond, _&&_}
-use mathlib.Core.List.{List, map, _++_}
+use mathlib.Core.List.{List, _++_}
 use lib.ListN.{length, set, drop}
 use lib.Seq.{paste}
 use lib.Dec.{ltb, leb}
 use Rattle.terms.specs.declared.Sizes.{Sizes}
 use Rattle.terms.specs.Refusals.{numberOf}
 use Rattle.terms.specs.declared.Refusal.the-variants.{TooLong, ExceededMaxFragments, Full}
-use Rattle.sequence_buffer.specs.Buffer.{emptied}
 use Rattle.received.specs.Record.{recorded}
 use Rattle.flight.specs.Entry.{packed}
 use Rattle.flight.specs.Places.{placeOf, full}
-use Rattle.flight.specs.Acked.{isAcked}
 use Rattle.flight.specs.declared.SentPacket.{SentPacket}
-use Rattle.acknowledgment.specs.State.{State, tableOf, slotOf, heard, sentOne}
+use Rattle.acks.specs.State.{State, tableOf, slotOf, heard, unacked, sentOne}
 use Rattle.flight.specs.Lost.{dropOf, numberLeft, outputLeft}
 use Rattle.flight.specs.declared.lost.Drop.{Drop}
 use Rattle.flight.specs.declared.lost.Drop.the-variants.{Nothing as NoDrop, Packet as OneDrop}
-use Rattle.acknowledgment.specs.Gate.{lent, sound, gated, tooLong}
+use Rattle.acks.specs.Gate.{lent, sound, gated, tooLong}
 use Rattle.acknowledgment.specs.declared.DroppedPackets.{DroppedPackets}
 use Rattle.acknowledgment.specs.declared.DroppedPackets.the-variants.{Nothing, Packet, Refused as NotDropped}
 use Rattle.acknowledgment.specs.declared.Processed.{Processed}
@@ -50,10 +48,6 @@ kept (Refused why) after before = before
 unfoldable pub incomingOf : Sizes → State → ℕ → ℕ → Processed
 incomingOf z s n acked =
     gated z (isLent z s) (isSound z s) Refused (Done (heard (s .counters) (s .received) n acked))
-
--- "removes from flight exactly the acknowledged number and each number i before it whose bit is set"
-abbrev pub unacked : Sizes → List ℕ → ℕ → ℕ → List ℕ
-unacked z number acked field = map (emptied (isAcked acked field)) (tableOf z number) ++ drop (z .«packets_in_flight») number
 
 pub record Incoming (z : Sizes) (s : State) (n acked field : ℕ) (r : Processed) (received number : List ℕ) : Type 0 where
   pub answer-is : r ≡ incomingOf z s n acked

@@ -29,13 +29,13 @@ use Rattle.flight.specs.declared.SentPacket.{SentPacket}
 use Rattle.flight.specs.declared.lost.Dropped.{Dropped}
 use Rattle.flight.specs.declared.lost.Drop.the-variants.{Packet as OneDrop}
 use Rattle.flight.proofs.Stays.{sound-of, fits-all, stays-acked, stays-dropped, stays-stored, place-within, slot-within}
-use Rattle.acknowledgment.specs.State.{State, lending, tableOf, slotOf, heard, sentOne}
-use Rattle.acknowledgment.specs.Gate.{lent, flightLent, sound, tooLong}
-use Rattle.acknowledgment.specs.Calls.{isLent, isSound, incomingOf, unacked, outgoingOf, at, droppedOf}
+use Rattle.acks.specs.State.{State, lending, tableOf, slotOf, heard, unacked, sentOne}
+use Rattle.acks.specs.Gate.{lent, flightLent, sound, tooLong}
+use Rattle.acknowledgment.specs.Calls.{isLent, isSound, incomingOf, outgoingOf, at, droppedOf}
 use Rattle.acknowledgment_laws.specs.Runs.{Call, comes, goes, drops, called, after, Typed, AllTyped, with-comes, with-goes, with-drops, freshEnd, NeverBroken}
 use Rattle.acknowledgment.specs.declared.DroppedPackets.{DroppedPackets}
 use Rattle.acknowledgment.specs.declared.DroppedPackets.the-variants.{Nothing, Packet, Refused as NotDropped}
-use Rattle.acknowledgment.proofs.Gates.{Lent, lent-means}
+use Rattle.acks.proofs.Gates.{Lent, lent-means}
 
 abbrev pub flightOf : Sizes → State → Flight
 flightOf z s = record { number = tableOf z (s .number); records = s .records; bytes = s .bytes }

@@ -12,9 +12,9 @@ use Rattle.sequence_buffer.specs.Buffer.{fresh}
 use Rattle.received.specs.Record.{recorded}
 use Rattle.flight.specs.Entry.{packed}
 use Rattle.flight.specs.declared.SentPacket.{SentPacket}
-use Rattle.acknowledgment.specs.State.{State, lending, slotOf, freshCounters}
-use Rattle.acknowledgment.specs.Calls.{isLent, isSound, kept, incomingOf, unacked, outgoingOf, at, droppedOf, numberKept}
-use Rattle.acknowledgment.specs.declared.Acknowledgment.{Acknowledgment}
+use Rattle.acks.specs.State.{State, lending, slotOf, freshCounters, unacked}
+use Rattle.acknowledgment.specs.Calls.{isLent, isSound, kept, incomingOf, outgoingOf, at, droppedOf, numberKept}
+use Rattle.acks.specs.declared.Acknowledgment.{Acknowledgment}
 use Rattle.acknowledgment.specs.declared.Processed.{Processed}
 use Rattle.acknowledgment.specs.declared.Processed.the-variants.{Done, Refused}
 

@@ -17,19 +17,21 @@ use Rattle.flight.specs.View.{Sent as Entry}
 use Rattle.acknowledgment.specs.declared.DroppedPackets.{DroppedPackets}
 use Rattle.acknowledgment.specs.declared.DroppedPackets.the-variants.{Nothing as NoDrop, Packet as OneDrop, Refused as NotDropped}
 use Rattle.acknowledgment_laws.specs.Runs.{Typed}
-use Rattle.packet.specs.Numbers.{Bytes}
-use Rattle.packet.specs.declared.DeliveryGuarantee.{DeliveryGuarantee}
-use Rattle.packet.specs.declared.DeliveryGuarantee.the-variants.{Unreliable, Reliable}
-use Rattle.packet.specs.declared.OrderingGuarantee.{OrderingGuarantee}
+use Rattle.packet_table.specs.Numbers.{Bytes}
+use Rattle.packet_table.specs.declared.DeliveryGuarantee.{DeliveryGuarantee}
+use Rattle.packet_table.specs.declared.DeliveryGuarantee.the-variants.{Unreliable, Reliable}
+use Rattle.packet_table.specs.declared.OrderingGuarantee.{OrderingGuarantee}
 use Rattle.ends.specs.State.{State}
-use Rattle.receiving.specs.Plan.{numberOfAnswer}
+use Rattle.receiving_plan.specs.Plan.{numberOfAnswer}
 use Rattle.receiving.specs.Receive.{Step as Received}
 use Rattle.sending.specs.Send.{Step as Sent}
 use Rattle.sending.specs.declared.Answer.{Answer as Going}
 use Rattle.sending.specs.declared.Answer.the-variants.{Datagram, Refused as NotSent}
-use Rattle.sending.specs.declared.further.Further.{Further}
-use Rattle.sending.specs.declared.further.Further.the-variants.{Datagram as Fragment, Nothing as NoFragment, Refused as NotWritten}
-use Rattle.link.specs.Calls.{receiveOf, takeOf, sendOf, resendOf, fragmentOf, fragmentOutput, dropOf, dropOutput}
+use Rattle.datagrams.specs.declared.further.Further.{Further}
+use Rattle.datagrams.specs.declared.further.Further.the-variants.{Datagram as Fragment, Nothing as NoFragment, Refused as NotWritten}
+use Rattle.link_incoming.specs.Calls.{receiveOf, takeOf}
+use Rattle.link_outgoing.specs.Calls.{sendOf, resendOf, fragmentOf, fragmentOutput}
+use Rattle.link.specs.Calls.{dropOf, dropOutput}
 use Rattle.link_laws.specs.Calls.{dropped}
 use Rattle.link_laws.specs.Never.{New}
 use Rattle.agreement.specs.World.{Pair, Copy, Mark, Back, World, start, latest, noBack, noCopy}

@@ -9,11 +9,11 @@ use lib.Dec.{ltb, eqb}
 use Rattle.laws.proofs.Cases.{case}
 use Rattle.terms.specs.declared.Sizes.{Sizes}
 use Rattle.terms.specs.declared.Refusal.{Refusal}
-use Rattle.acknowledgment.specs.State.{tableOf}
+use Rattle.acks.specs.State.{tableOf}
 use Rattle.splitter.specs.Split.{needed}
 use Rattle.ends.specs.State.{State}
 use Rattle.sending.specs.Plan.{isListed, isLong, streamPlace, isFull, flightPlace, planOf}
-use Rattle.sending.specs.declared.Item.{Item}
+use Rattle.datagrams.specs.declared.Item.{Item}
 use Rattle.sending.specs.declared.plan.Sending.{Sending}
 use Rattle.sending.specs.declared.plan.Plan.the-variants.{Refuse, Send}
 

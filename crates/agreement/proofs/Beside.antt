@@ -11,37 +11,37 @@ use Rattle.laws.proofs.Cases.{case, lt-or-le}
 use Rattle.terms.specs.declared.Sizes.{Sizes}
 use Rattle.terms.specs.declared.Gate.{Gate}
 use Rattle.terms.specs.declared.Gate.the-variants.{Open, Shut}
-use Rattle.acknowledgment.specs.State.{tableOf}
+use Rattle.acks.specs.State.{tableOf}
 use Rattle.packet.specs.Read.{readOf}
-use Rattle.packet.specs.declared.Headers.{Headers}
-use Rattle.packet.specs.declared.PacketType.{PacketType}
-use Rattle.packet.specs.declared.PacketType.the-variants.{Packet, Fragment, Heartbeat}
-use Rattle.packet.specs.declared.OrderingGuarantee.{OrderingGuarantee}
-use Rattle.packet.specs.declared.OrderingGuarantee.the-variants.{None, Sequenced as InSequence, Ordered as InOrder}
+use Rattle.packet_table.specs.declared.Headers.{Headers}
+use Rattle.packet_table.specs.declared.PacketType.{PacketType}
+use Rattle.packet_table.specs.declared.PacketType.the-variants.{Packet, Fragment, Heartbeat}
+use Rattle.packet_table.specs.declared.OrderingGuarantee.{OrderingGuarantee}
+use Rattle.packet_table.specs.declared.OrderingGuarantee.the-variants.{None, Sequenced as InSequence, Ordered as InOrder}
 use Rattle.packet.specs.declared.Read.{Read}
 use Rattle.packet.specs.declared.Read.the-variants.{Found, Refused as Unread}
 use Rattle.ordering.specs.Take.{nextOf}
-use Rattle.ordering.specs.Arrange.{planOf as itemPlan}
-use Rattle.ordering.specs.declared.OrderingStream.{OrderingStream}
-use Rattle.ordering.specs.declared.Arranged.{Arranged}
-use Rattle.ordering.specs.declared.Arranged.the-variants.{Out as GoesOut, Held as IsHeld, Old as IsOld, Refused as IsRefused}
+use Rattle.ordering_plan.specs.Arrange.{planOf as itemPlan}
+use Rattle.ordering_plan.specs.declared.OrderingStream.{OrderingStream}
+use Rattle.ordering_plan.specs.declared.Arranged.{Arranged}
+use Rattle.ordering_plan.specs.declared.Arranged.the-variants.{Out as GoesOut, Held as IsHeld, Old as IsOld, Refused as IsRefused}
 use Rattle.ordering_laws.specs.Held.{heldAt}
-use Rattle.arranging.specs.Ids.{placeOf}
-use Rattle.arranging.specs.Ordered.{States, part, streamAt, stateAt, planOn, nextOn, takenOn}
+use Rattle.arranging_plan.specs.Ids.{placeOf}
+use Rattle.arranging_plan.specs.Ordered.{States, part, streamAt, stateAt, planOn, nextOn, takenOn}
 use Rattle.arranging.proofs.Kept.{next-away}
 use Rattle.arranging_laws.proofs.Ids.{few}
 use Rattle.arranging_laws.proofs.Stays.{arranged-fits, taken-fits, taken-is}
 use Rattle.ends.specs.State.{State}
 use Rattle.ends.specs.Gate.{gateOf}
-use Rattle.receiving.specs.Plan.{sequencedPlan, orderedAs, planBy, planOf}
+use Rattle.receiving_plan.specs.Plan.{sequencedPlan, orderedAs, planBy, planOf}
 use Rattle.receiving.specs.Receive.{packetAs, byType, readAs, receivedOf}
 use Rattle.sending.specs.Plan.{planOf as sendPlan}
 use Rattle.sending.specs.Send.{transmittedAs, transmittedOf}
-use Rattle.sending.specs.declared.Item.{Item}
+use Rattle.datagrams.specs.declared.Item.{Item}
 use Rattle.sending.specs.declared.plan.Sending.{Sending}
 use Rattle.sending.specs.declared.plan.Plan.{Plan}
 use Rattle.sending.specs.declared.plan.Plan.the-variants.{Refuse, Send}
-use Rattle.link.specs.Calls.{receiveOf, takeOf}
+use Rattle.link_incoming.specs.Calls.{receiveOf, takeOf}
 use Rattle.link_laws.proofs.Kept.{Kept}
 use Rattle.link_laws.proofs.Receive.{one-of-four}
 use Rattle.agreement.proofs.Streams.{seen, Equal, equal-same, other-seen, ids-of}

@@ -5,15 +5,15 @@ use mathlib.Core.List.{List, [], _∷_, _++_}
 use native.Mathlib.Nat.{mod-lt, le-of-suc-le-suc, not-suc-le-zero}
 use native.Mathlib.Omega.{arith}
 use lib.ListN.{take, drop}
-use Rattle.packet.specs.Numbers.{bytes, Bytes}
-use Rattle.packet.specs.Layout.{standardBytes, fragmentBytes, ackedBytes, arrangingBytes, part, followingBytes, datagram}
-use Rattle.packet.specs.Table.{typeNumber, deliveryNumber, orderingNumber, follows, hasFragment, hasAcked, hasArranging}
-use Rattle.packet.specs.declared.Headers.{Headers}
-use Rattle.packet.specs.declared.StandardHeader.{StandardHeader}
-use Rattle.packet.specs.declared.FragmentHeader.{FragmentHeader}
-use Rattle.packet.specs.declared.AckedPacketHeader.{AckedPacketHeader}
-use Rattle.packet.specs.declared.ArrangingHeader.{ArrangingHeader}
-use Rattle.packet.specs.declared.table.Following.{Following}
+use Rattle.packet_table.specs.Numbers.{bytes, Bytes}
+use Rattle.packet_table.specs.Layout.{standardBytes, fragmentBytes, ackedBytes, arrangingBytes, part, followingBytes, datagram}
+use Rattle.packet_table.specs.Table.{typeNumber, deliveryNumber, orderingNumber, follows, hasFragment, hasAcked, hasArranging}
+use Rattle.packet_table.specs.declared.Headers.{Headers}
+use Rattle.packet_table.specs.declared.StandardHeader.{StandardHeader}
+use Rattle.packet_table.specs.declared.FragmentHeader.{FragmentHeader}
+use Rattle.packet_table.specs.declared.AckedPacketHeader.{AckedPacketHeader}
+use Rattle.packet_table.specs.declared.ArrangingHeader.{ArrangingHeader}
+use Rattle.packet_table.specs.declared.table.Following.{Following}
 
 no-bytes : Bytes []
 no-bytes i h = absurd (not-suc-le-zero h)

@@ -28,8 +28,7 @@ use Rattle.flight.specs.declared.lost.Drop.the-variants.{Packet as OneDrop}
 use Rattle.flight.proofs.Given.{facts}
 use Rattle.flight.proofs.Found.{first-at, least-found, fits-at}
 use Rattle.flight.proofs.Stays.{place-within, sound-fits}
-use Rattle.acknowledgment.specs.State.{State as Acks, tableOf, slotOf}
-use Rattle.acknowledgment.specs.Calls.{unacked}
+use Rattle.acks.specs.State.{State as Acks, tableOf, slotOf, unacked}
 use Rattle.acknowledgment_laws.specs.Runs.{Typed}
 use Rattle.acknowledgment_laws.proofs.Unbroken.{Good, flightOf}
 

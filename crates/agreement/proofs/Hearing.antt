@@ -12,25 +12,25 @@ use Rattle.terms.specs.declared.Sizes.{Sizes}
 use Rattle.terms.specs.declared.Gate.{Gate}
 use Rattle.terms.specs.declared.Gate.the-variants.{Open, Shut}
 use Rattle.flight.specs.View.{Sent as Entry, view}
-use Rattle.acknowledgment.specs.State.{State as Acks, slotOf}
+use Rattle.acks.specs.State.{State as Acks, slotOf}
 use Rattle.acknowledgment_laws.proofs.Unbroken.{flightOf}
 use Rattle.packet.specs.Read.{readOf}
-use Rattle.packet.specs.declared.Headers.{Headers}
-use Rattle.packet.specs.declared.PacketType.{PacketType}
-use Rattle.packet.specs.declared.PacketType.the-variants.{Packet, Fragment, Heartbeat}
-use Rattle.packet.specs.declared.DeliveryGuarantee.{DeliveryGuarantee}
-use Rattle.packet.specs.declared.DeliveryGuarantee.the-variants.{Unreliable, Reliable}
+use Rattle.packet_table.specs.declared.Headers.{Headers}
+use Rattle.packet_table.specs.declared.PacketType.{PacketType}
+use Rattle.packet_table.specs.declared.PacketType.the-variants.{Packet, Fragment, Heartbeat}
+use Rattle.packet_table.specs.declared.DeliveryGuarantee.{DeliveryGuarantee}
+use Rattle.packet_table.specs.declared.DeliveryGuarantee.the-variants.{Unreliable, Reliable}
 use Rattle.packet.specs.declared.Read.{Read}
 use Rattle.packet.specs.declared.Read.the-variants.{Found, Refused as Unread}
 use Rattle.reassembly.specs.declared.effects.Answer.{Answer as PartAnswer}
 use Rattle.reassembly.specs.declared.effects.Answer.the-variants.{Waiting, Whole, Refused as NotJoined}
 use Rattle.ends.specs.State.{State}
 use Rattle.ends.specs.Gate.{gateOf}
-use Rattle.receiving.specs.Plan.{planOf, refuses}
-use Rattle.receiving.specs.Packets.{unheard, acksBy}
-use Rattle.receiving.specs.Fragments.{partAnswer, acksAtWhole}
+use Rattle.receiving_plan.specs.Plan.{planOf, refuses}
+use Rattle.receiving_plan.specs.Heard.{unheard, acksBy}
+use Rattle.receiving_fragments.specs.Fragments.{partAnswer, acksAtWhole}
 use Rattle.receiving.specs.Receive.{hearing, byType, readAs, receivedOf}
-use Rattle.link.specs.Calls.{receiveOf}
+use Rattle.link_incoming.specs.Calls.{receiveOf}
 use Rattle.link_laws.proofs.Kept.{Kept}
 use Rattle.agreement.proofs.Flying.{heard-keeps}
 

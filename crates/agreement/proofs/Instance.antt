@@ -27,42 +27,44 @@ use Rattle.flight.specs.declared.lost.Dropped.{Dropped as Given}
 use Rattle.flight.specs.declared.lost.Drop.{Drop}
 use Rattle.flight.specs.declared.lost.Drop.the-variants.{Nothing as NoLoss, Packet as OneLoss}
 use Rattle.flight.proofs.Viewed.{seen as seenAt, unseen}
-use Rattle.acknowledgment.specs.State.{State as Acks, tableOf, slotOf}
+use Rattle.acks.specs.State.{State as Acks, tableOf, slotOf}
 use Rattle.acknowledgment.specs.Calls.{answeredBy, outputKept}
 use Rattle.acknowledgment.specs.declared.DroppedPackets.{DroppedPackets}
 use Rattle.acknowledgment.specs.declared.DroppedPackets.the-variants.{Nothing as NoDrop, Packet as OneDrop, Refused as NotDropped}
 use Rattle.acknowledgment_laws.specs.Runs.{Typed}
 use Rattle.acknowledgment_laws.proofs.Unbroken.{flightOf}
-use Rattle.packet.specs.Layout.{datagram, followingBytes}
-use Rattle.packet.specs.Table.{follows, orderingOf}
+use Rattle.packet_table.specs.Layout.{datagram, followingBytes}
+use Rattle.packet_table.specs.Table.{follows, orderingOf}
 use Rattle.packet.specs.Read.{headersOf}
-use Rattle.packet.specs.Numbers.{Bytes}
-use Rattle.packet.specs.declared.Headers.{Headers}
-use Rattle.packet.specs.declared.StandardHeader.{StandardHeader}
-use Rattle.packet.specs.declared.PacketType.the-variants.{Packet, Fragment as IsFragment}
-use Rattle.packet.specs.declared.DeliveryGuarantee.{DeliveryGuarantee}
-use Rattle.packet.specs.declared.DeliveryGuarantee.the-variants.{Unreliable, Reliable}
-use Rattle.packet.specs.declared.OrderingGuarantee.{OrderingGuarantee}
-use Rattle.packet.specs.declared.OrderingGuarantee.the-variants.{None, Sequenced, Ordered}
-use Rattle.packet.proofs.Laws.{accepted}
-use Rattle.packet.proofs.Parsed.{standard-parsed}
-use Rattle.ordering.specs.State.{fresh}
-use Rattle.ordering.specs.declared.OrderingStream.{OrderingStream}
-use Rattle.arranging.specs.Ids.{placeOf}
-use Rattle.arranging.proofs.Sound.{fresh-at}
+use Rattle.packet_table.specs.Numbers.{Bytes}
+use Rattle.packet_table.specs.declared.Headers.{Headers}
+use Rattle.packet_table.specs.declared.StandardHeader.{StandardHeader}
+use Rattle.packet_table.specs.declared.PacketType.the-variants.{Packet, Fragment as IsFragment}
+use Rattle.packet_table.specs.declared.DeliveryGuarantee.{DeliveryGuarantee}
+use Rattle.packet_table.specs.declared.DeliveryGuarantee.the-variants.{Unreliable, Reliable}
+use Rattle.packet_table.specs.declared.OrderingGuarantee.{OrderingGuarantee}
+use Rattle.packet_table.specs.declared.OrderingGuarantee.the-variants.{None, Sequenced, Ordered}
+use Rattle.packet_laws.proofs.Laws.{accepted}
+use Rattle.packet_laws.proofs.Parsed.{standard-parsed}
+use Rattle.ordering_plan.specs.State.{fresh}
+use Rattle.ordering_plan.specs.declared.OrderingStream.{OrderingStream}
+use Rattle.arranging_plan.specs.Ids.{placeOf}
+use Rattle.arranging_plan.proofs.Sound.{fresh-at}
 use Rattle.ends.specs.State.{State}
 use Rattle.ends.specs.declared.End.{End}
 use Rattle.ends.specs.Gate.{gateOf}
 use Rattle.splitter.specs.Split.{needed, pieces}
 use Rattle.splitter.proofs.Pieces.{piece-at}
-use Rattle.sending.specs.Further.{furtherHeaders, payloadFor, furtherDatagram, hasFurther, furtherOf, furtherOutput}
+use Rattle.datagrams.specs.Further.{furtherHeaders, payloadFor, furtherDatagram, hasFurther, furtherOf, furtherOutput}
 use Rattle.sending.specs.Send.{Step as Sent, transmittedOf}
-use Rattle.sending.specs.declared.Item.{Item}
-use Rattle.sending.specs.declared.Identifier.the-variants.{Next}
+use Rattle.datagrams.specs.declared.Item.{Item}
+use Rattle.datagrams.specs.declared.Identifier.the-variants.{Next}
 use Rattle.sending.specs.declared.Written.{Written}
 use Rattle.sending.specs.declared.Answer.the-variants.{Datagram}
-use Rattle.sending.specs.declared.further.Further.the-variants.{Datagram as Fragment}
-use Rattle.link.specs.Calls.{receiveOf, takeOf, sendOf, resendOf, itemAgain, fragmentOf, fragmentOutput, dropOf, dropOutput}
+use Rattle.datagrams.specs.declared.further.Further.the-variants.{Datagram as Fragment}
+use Rattle.link_incoming.specs.Calls.{receiveOf, takeOf}
+use Rattle.link_outgoing.specs.Calls.{sendOf, resendOf, itemAgain, fragmentOf, fragmentOutput}
+use Rattle.link.specs.Calls.{dropOf, dropOutput}
 use Rattle.link_laws.specs.Calls.{Call, receives, takes as takesOn, sends as sendsOn, resends as resendsOn, writes as writesOn, drops as dropsOn, asks, dropped, called}
 use Rattle.link_laws.specs.Never.{New}
 use Rattle.link_laws.proofs.Kept.{Kept, stays-open, kept-new}

@@ -4,16 +4,16 @@ use mathlib.Core.Path.{_≡_, refl, sym, ap, _∙_, subst}
 use mathlib.Core.Logic.{⊎-elim}
 use lib.ListN.{length}
 use Rattle.serial.specs.declared.ItemId.{ItemId}
-use Rattle.ordering.specs.State.{State as Stream}
-use Rattle.ordering.specs.declared.OrderingStream.{OrderingStream}
+use Rattle.ordering_plan.specs.State.{State as Stream}
+use Rattle.ordering_plan.specs.declared.OrderingStream.{OrderingStream}
 use Rattle.ordering_laws.specs.Held.{heldAt}
 use Rattle.ordering_laws.proofs.Found.{same?}
-use Rattle.arranging.specs.Ids.{placeOf}
-use Rattle.arranging.specs.Ordered.{States, lendingAll, stateAt}
+use Rattle.arranging_plan.specs.Ids.{placeOf}
+use Rattle.arranging_plan.specs.Ordered.{States, lendingAll, stateAt}
 use Rattle.arranging_laws.proofs.Stays.{Sent, sent-fits, sent-is, fitting}
 use Rattle.sending.specs.Send.{orderedAs}
-use Rattle.sending.specs.declared.Identifier.{Identifier}
-use Rattle.sending.specs.declared.Identifier.the-variants.{Next, Again}
+use Rattle.datagrams.specs.declared.Identifier.{Identifier}
+use Rattle.datagrams.specs.declared.Identifier.the-variants.{Next, Again}
 use Rattle.link_laws.proofs.Kept.{KeptOrdered}
 use Rattle.link_laws.proofs.Send.{again-is}
 use Rattle.agreement.proofs.Streams.{seen, Equal, own-seen, other-seen}

@@ -14,20 +14,22 @@ use Rattle.flight.specs.declared.SentPacket.{SentPacket}
 use Rattle.flight.specs.declared.lost.Dropped.{Dropped as Drop}
 use Rattle.acknowledgment.specs.declared.DroppedPackets.the-variants.{Packet as OneDrop}
 use Rattle.acknowledgment_laws.specs.Runs.{Typed}
-use Rattle.packet.specs.Numbers.{Bytes}
-use Rattle.packet.specs.declared.DeliveryGuarantee.{DeliveryGuarantee}
-use Rattle.packet.specs.declared.DeliveryGuarantee.the-variants.{Unreliable, Reliable}
-use Rattle.packet.specs.declared.OrderingGuarantee.{OrderingGuarantee}
+use Rattle.packet_table.specs.Numbers.{Bytes}
+use Rattle.packet_table.specs.declared.DeliveryGuarantee.{DeliveryGuarantee}
+use Rattle.packet_table.specs.declared.DeliveryGuarantee.the-variants.{Unreliable, Reliable}
+use Rattle.packet_table.specs.declared.OrderingGuarantee.{OrderingGuarantee}
 use Rattle.ordering.specs.declared.Taken.the-variants.{Item, Nothing}
 use Rattle.ends.specs.State.{State}
-use Rattle.receiving.specs.Plan.{numberOfAnswer}
+use Rattle.receiving_plan.specs.Plan.{numberOfAnswer}
 use Rattle.receiving.specs.Receive.{Step as Received}
-use Rattle.receiving.specs.declared.Item.{Item as Arrived}
-use Rattle.receiving.specs.declared.Answer.the-variants.{Out, Held, Old, Refused as NotReceived}
+use Rattle.receiving_plan.specs.declared.Item.{Item as Arrived}
+use Rattle.receiving_plan.specs.declared.Answer.the-variants.{Out, Held, Old, Refused as NotReceived}
 use Rattle.sending.specs.declared.Written.{Written}
 use Rattle.sending.specs.declared.Answer.the-variants.{Datagram, Refused as NotSent}
-use Rattle.sending.specs.declared.further.Further.the-variants.{Datagram as Fragment}
-use Rattle.link.specs.Calls.{receiveOf, takeOf, Taking, sendOf, resendOf, fragmentOf, fragmentOutput, dropOf, dropOutput}
+use Rattle.datagrams.specs.declared.further.Further.the-variants.{Datagram as Fragment}
+use Rattle.link_incoming.specs.Calls.{receiveOf, takeOf, Taking}
+use Rattle.link_outgoing.specs.Calls.{sendOf, resendOf, fragmentOf, fragmentOutput}
+use Rattle.link.specs.Calls.{dropOf, dropOutput}
 use Rattle.link_laws.specs.Calls.{Call, dropped, called}
 use Rattle.link_laws.specs.Never.{New}
 use Rattle.agreement.specs.World.{Pair, World}

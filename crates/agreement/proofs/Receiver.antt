@@ -12,26 +12,26 @@ use Rattle.laws.proofs.Cases.{case, lt-or-le}
 use Rattle.serial.specs.Order.{back}
 use Rattle.terms.specs.declared.Sizes.{Sizes}
 use Rattle.terms.specs.declared.Refusal.the-variants.{NoStream, Full as IsFull}
-use Rattle.ordering.specs.State.{State as Stream, placeOf as heldPlace}
-use Rattle.ordering.specs.Arrange.{planOf as itemPlan, arranged}
-use Rattle.ordering.specs.declared.Arranged.{Arranged}
-use Rattle.ordering.specs.declared.Arranged.the-variants.{Out as GoesOut, Held as IsHeld, Old as IsOld, Refused as IsRefused}
-use Rattle.ordering.specs.declared.OrderingStream.{OrderingStream}
+use Rattle.ordering_plan.specs.State.{State as Stream, placeOf as heldPlace}
+use Rattle.ordering_plan.specs.Arrange.{planOf as itemPlan, arranged}
+use Rattle.ordering_plan.specs.declared.Arranged.{Arranged}
+use Rattle.ordering_plan.specs.declared.Arranged.the-variants.{Out as GoesOut, Held as IsHeld, Old as IsOld, Refused as IsRefused}
+use Rattle.ordering_plan.specs.declared.OrderingStream.{OrderingStream}
 use Rattle.ordering_laws.specs.Held.{heldAt, Good}
 use Rattle.ordering_laws.proofs.Found.{same?}
 use Rattle.ordering_laws.proofs.Map.{held-is-a-map}
-use Rattle.arranging.specs.Ids.{placeOf}
-use Rattle.arranging.specs.Ordered.{States, storedAt}
-use Rattle.arranging.proofs.Parts.{plan-none, plan-on}
-use Rattle.arranging.proofs.Sound.{fresh-at}
+use Rattle.arranging_plan.specs.Ids.{placeOf}
+use Rattle.arranging_plan.specs.Ordered.{States, storedAt}
+use Rattle.arranging_plan.proofs.Parts.{plan-none, plan-on}
+use Rattle.arranging_plan.proofs.Sound.{fresh-at}
 use Rattle.arranging_laws.proofs.Stays.{arranged-fits}
 use Rattle.arranging_laws.proofs.Ids.{few}
 use Rattle.arranging_laws.proofs.Stored.{Fitting, state-good}
 use Rattle.ends.specs.State.{State}
-use Rattle.receiving.specs.Plan.{orderedAs, planOf, itemOf}
+use Rattle.receiving_plan.specs.Plan.{orderedAs, planOf, itemOf}
 use Rattle.receiving.specs.Receive.{Step as Received, packetAs, receivedOf}
-use Rattle.receiving.specs.declared.plan.Plan.the-variants.{Refuse}
-use Rattle.link.specs.Calls.{receiveOf}
+use Rattle.receiving_plan.specs.declared.Plan.the-variants.{Refuse}
+use Rattle.link_incoming.specs.Calls.{receiveOf}
 use Rattle.link_laws.proofs.Kept.{stays-open}
 use Rattle.link_laws.proofs.Receive.{one-of-four}
 use Rattle.agreement.specs.World.{Pair}

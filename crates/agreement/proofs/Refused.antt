@@ -8,23 +8,23 @@ use lib.ListN.{length, take}
 use Rattle.laws.proofs.Cases.{lt-or-le}
 use Rattle.serial.specs.Order.{back}
 use Rattle.terms.specs.declared.Refusal.the-variants.{Full as IsFull}
-use Rattle.ordering.specs.State.{State as Stream, fresh}
-use Rattle.ordering.specs.Arrange.{planOf as itemPlan}
-use Rattle.ordering.specs.declared.Arranged.{Arranged}
-use Rattle.ordering.specs.declared.Arranged.the-variants.{Out as GoesOut, Held as IsHeld, Old as IsOld, Refused as IsRefused}
-use Rattle.ordering.specs.declared.OrderingStream.{OrderingStream}
+use Rattle.ordering_plan.specs.State.{State as Stream, fresh}
+use Rattle.ordering_plan.specs.Arrange.{planOf as itemPlan}
+use Rattle.ordering_plan.specs.declared.Arranged.{Arranged}
+use Rattle.ordering_plan.specs.declared.Arranged.the-variants.{Out as GoesOut, Held as IsHeld, Old as IsOld, Refused as IsRefused}
+use Rattle.ordering_plan.specs.declared.OrderingStream.{OrderingStream}
 use Rattle.ordering_laws.specs.Full.{others}
 use Rattle.ordering_laws.proofs.Found.{same?}
 use Rattle.ordering_laws.proofs.Filled.{full-is-exact}
-use Rattle.arranging.specs.Ids.{placeOf}
-use Rattle.arranging.specs.declared.ids.StreamIds.{StreamIds}
-use Rattle.arranging.proofs.Sound.{fresh-at}
+use Rattle.arranging_plan.specs.Ids.{placeOf}
+use Rattle.arranging_plan.specs.declared.ids.StreamIds.{StreamIds}
+use Rattle.arranging_plan.proofs.Sound.{fresh-at}
 use Rattle.arranging_laws.specs.Sound.{WholeIds}
 use Rattle.arranging_laws.proofs.Ids.{few, place-le}
 use Rattle.arranging_laws.proofs.Stored.{state-good}
-use Rattle.receiving.specs.Plan.{numberOfAnswer, orderedAs}
+use Rattle.receiving_plan.specs.Plan.{numberOfAnswer, orderedAs}
 use Rattle.receiving.specs.Receive.{Step as Received, packetAs}
-use Rattle.link.specs.Calls.{receiveOf}
+use Rattle.link_incoming.specs.Calls.{receiveOf}
 use Rattle.agreement.specs.World.{Pair, World}
 use Rattle.agreement.specs.Agreement.{Lent, Fifth, Full, Refusals, streamOf}
 use Rattle.agreement.proofs.Streams.{made-at, made-least, ids-of}

@@ -16,26 +16,26 @@ use Rattle.terms.proofs.Ranges.{in-range-means}
 use Rattle.flight.specs.Entry.{packed}
 use Rattle.flight.specs.Places.{placeOf as placeInFlight, full}
 use Rattle.flight.specs.View.{Flight, view}
-use Rattle.acknowledgment.specs.State.{tableOf, slotOf}
+use Rattle.acks.specs.State.{tableOf, slotOf}
 use Rattle.acknowledgment_laws.specs.Runs.{Typed}
 use Rattle.acknowledgment_laws.proofs.Unbroken.{flightOf}
-use Rattle.packet.specs.Numbers.{Bytes}
-use Rattle.packet.specs.Table.{orderingNumber}
-use Rattle.packet.specs.declared.DeliveryGuarantee.{DeliveryGuarantee}
-use Rattle.packet.specs.declared.DeliveryGuarantee.the-variants.{Unreliable, Reliable}
-use Rattle.packet.specs.declared.OrderingGuarantee.{OrderingGuarantee}
-use Rattle.packet.specs.declared.OrderingGuarantee.the-variants.{None, Sequenced, Ordered}
-use Rattle.ordering.specs.State.{State as Stream}
-use Rattle.ordering.specs.declared.OrderingStream.{OrderingStream}
-use Rattle.arranging.specs.Ids.{placeOf}
-use Rattle.arranging.specs.Ordered.{States, streamAt}
+use Rattle.packet_table.specs.Numbers.{Bytes}
+use Rattle.packet_table.specs.Table.{orderingNumber}
+use Rattle.packet_table.specs.declared.DeliveryGuarantee.{DeliveryGuarantee}
+use Rattle.packet_table.specs.declared.DeliveryGuarantee.the-variants.{Unreliable, Reliable}
+use Rattle.packet_table.specs.declared.OrderingGuarantee.{OrderingGuarantee}
+use Rattle.packet_table.specs.declared.OrderingGuarantee.the-variants.{None, Sequenced, Ordered}
+use Rattle.ordering_plan.specs.State.{State as Stream}
+use Rattle.ordering_plan.specs.declared.OrderingStream.{OrderingStream}
+use Rattle.arranging_plan.specs.Ids.{placeOf}
+use Rattle.arranging_plan.specs.Ordered.{States, streamAt}
 use Rattle.ends.specs.State.{State, countersOf}
 use Rattle.sending.specs.Plan.{isFull, flightPlace, planOf}
-use Rattle.sending.specs.Datagrams.{headersFor}
+use Rattle.datagrams.specs.Datagrams.{headersFor}
 use Rattle.sending.specs.Send.{sequencedAs, orderedAs, identifiedBy, identifiedIn, recordOf, datagramIn, answerFor, Step as Sent, transmittedAs, transmittedOf}
-use Rattle.sending.specs.declared.Item.{Item}
-use Rattle.sending.specs.declared.Identifier.{Identifier}
-use Rattle.sending.specs.declared.Identifier.the-variants.{Next, Again}
+use Rattle.datagrams.specs.declared.Item.{Item}
+use Rattle.datagrams.specs.declared.Identifier.{Identifier}
+use Rattle.datagrams.specs.declared.Identifier.the-variants.{Next, Again}
 use Rattle.sending.specs.declared.Written.{Written}
 use Rattle.sending.specs.declared.Answer.the-variants.{Datagram, Refused as NotSent}
 use Rattle.sending.specs.declared.plan.Sending.{Sending}

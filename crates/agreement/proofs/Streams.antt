@@ -12,15 +12,15 @@ use lib.ListN.{length, getD, take, set, length-set}
 use lib.Seq.{length-take-le, getD-take, getD-set-same, getD-set-other}
 use Rattle.laws.proofs.Cases.{lt-or-le}
 use Rattle.keys.proofs.First.{first-at, first-min}
-use Rattle.ordering.specs.State.{State as Stream, fresh, placeOf as heldPlace}
-use Rattle.ordering.specs.declared.OrderingStream.{OrderingStream}
+use Rattle.ordering_plan.specs.State.{State as Stream, fresh, placeOf as heldPlace}
+use Rattle.ordering_plan.specs.declared.OrderingStream.{OrderingStream}
 use Rattle.ordering_laws.specs.Held.{heldAt}
-use Rattle.arranging.specs.Ids.{placeOf, madeAt}
-use Rattle.arranging.specs.Ordered.{States, streamAt, stateAt, storedAt}
-use Rattle.arranging.specs.declared.ids.StreamIds.{StreamIds}
+use Rattle.arranging_plan.specs.Ids.{placeOf, madeAt}
+use Rattle.arranging_plan.specs.Ordered.{States, streamAt, stateAt, storedAt}
+use Rattle.arranging_plan.specs.declared.ids.StreamIds.{StreamIds}
 use Rattle.arranging.proofs.Kept.{made-same}
-use Rattle.arranging.proofs.Parts.{block-end}
-use Rattle.arranging.proofs.Sound.{all-ids, fresh-at}
+use Rattle.arranging_plan.proofs.Parts.{block-end}
+use Rattle.arranging_plan.proofs.Sound.{all-ids, fresh-at}
 use Rattle.arranging_laws.specs.Sound.{Whole, WholeIds}
 use Rattle.arranging_laws.proofs.Apart.{put-here}
 use Rattle.arranging_laws.proofs.Ids.{few, place-le}

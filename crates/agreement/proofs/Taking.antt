@@ -12,21 +12,21 @@ use Rattle.laws.proofs.Cases.{case, lt-or-le}
 use Rattle.laws.proofs.Slots.{slot-end, part-length}
 use Rattle.terms.specs.declared.Sizes.{Sizes}
 use Rattle.terms.specs.declared.Refusal.{Refusal}
-use Rattle.ordering.specs.State.{State as Stream}
+use Rattle.ordering_plan.specs.State.{State as Stream}
 use Rattle.ordering.specs.Take.{nextPlace, nextOf, taken}
 use Rattle.ordering.specs.declared.Taken.{Taken}
 use Rattle.ordering.specs.declared.Taken.the-variants.{Item, Nothing, Refused as NotTaken}
 use Rattle.ordering_laws.specs.Held.{Good}
 use Rattle.ordering_laws.proofs.Map.{found-there, held-is-a-map}
-use Rattle.arranging.specs.Ids.{placeOf}
-use Rattle.arranging.specs.Ordered.{storedAt, nextOn}
+use Rattle.arranging_plan.specs.Ids.{placeOf}
+use Rattle.arranging_plan.specs.Ordered.{storedAt, nextOn}
 use Rattle.arranging.proofs.Kept.{next-here, next-away}
-use Rattle.arranging.proofs.Sound.{fresh-at}
+use Rattle.arranging_plan.proofs.Sound.{fresh-at}
 use Rattle.arranging_laws.proofs.Ids.{few}
 use Rattle.arranging_laws.proofs.Stays.{taken-fits}
 use Rattle.arranging_laws.proofs.Stored.{state-good}
 use Rattle.ends.specs.State.{State}
-use Rattle.link.specs.Calls.{Taking, takenBy, takeOf}
+use Rattle.link_incoming.specs.Calls.{Taking, takenBy, takeOf}
 use Rattle.link_laws.proofs.Kept.{stays-open}
 use Rattle.agreement.specs.World.{Pair}
 use Rattle.agreement.specs.Agreement.{Lent}

@@ -4,7 +4,7 @@ use mathlib.Core.Bool.{true}
 use Rattle.terms.specs.Sizes.{inRange}
 use Rattle.terms.specs.declared.Sizes.{Sizes}
 use Rattle.flight.specs.View.{view}
-use Rattle.acknowledgment.specs.State.{slotOf}
+use Rattle.acks.specs.State.{slotOf}
 use Rattle.acknowledgment_laws.proofs.Unbroken.{flightOf}
 use Rattle.ordering_laws.specs.Held.{heldAt}
 use Rattle.ends.specs.State.{State}

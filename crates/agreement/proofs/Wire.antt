@@ -4,9 +4,9 @@ use mathlib.Core.Path.{_≡_}
 use mathlib.Core.List.{List}
 use lib.ListN.{drop}
 use Rattle.packet.specs.Read.{readOf}
-use Rattle.packet.specs.declared.Headers.{Headers}
-use Rattle.packet.specs.declared.PacketType.the-variants.{Packet}
-use Rattle.packet.specs.declared.OrderingGuarantee.the-variants.{Ordered}
+use Rattle.packet_table.specs.declared.Headers.{Headers}
+use Rattle.packet_table.specs.declared.PacketType.the-variants.{Packet}
+use Rattle.packet_table.specs.declared.OrderingGuarantee.the-variants.{Ordered}
 use Rattle.packet.specs.declared.Read.the-variants.{Found}
 
 -- it reads as an item of the stream, with this index and this payload; v is V

@@ -16,23 +16,24 @@ use Rattle.terms.specs.declared.Sizes.{Sizes}
 use Rattle.terms.proofs.Ranges.{in-range-means}
 use Rattle.received.specs.Record.{slotsOf}
 use Rattle.received.proofs.Facts.{facts as field-facts}
-use Rattle.acknowledgment.specs.declared.Acknowledgment.{Acknowledgment}
+use Rattle.acks.specs.declared.Acknowledgment.{Acknowledgment}
 use Rattle.splitter.specs.Split.{needed}
-use Rattle.packet.specs.Table.{rule, listed, follows, hasAcked}
-use Rattle.packet.specs.Read.{noAcked, misfit, readOf}
-use Rattle.packet.specs.Inverse.{Fits, carried, start}
-use Rattle.packet.specs.declared.AckedPacketHeader.{AckedPacketHeader}
-use Rattle.packet.specs.declared.Headers.{Headers}
+use Rattle.packet_table.specs.Table.{rule, listed, follows, hasAcked}
+use Rattle.packet.specs.Read.{noAcked, readOf}
+use Rattle.packet_table.specs.Table.{misfit}
+use Rattle.packet_laws.specs.Inverse.{Fits, carried, start}
+use Rattle.packet_table.specs.declared.AckedPacketHeader.{AckedPacketHeader}
+use Rattle.packet_table.specs.declared.Headers.{Headers}
 use Rattle.packet.specs.declared.Read.the-variants.{Found}
-use Rattle.packet.specs.declared.PacketType.the-variants.{Packet, Fragment}
-use Rattle.packet.specs.declared.DeliveryGuarantee.{DeliveryGuarantee}
-use Rattle.packet.specs.declared.DeliveryGuarantee.the-variants.{Unreliable, Reliable}
-use Rattle.packet.specs.declared.OrderingGuarantee.{OrderingGuarantee}
-use Rattle.packet.specs.declared.OrderingGuarantee.the-variants.{None, Sequenced, Ordered}
-use Rattle.packet.proofs.Theorems.{layout-reads}
+use Rattle.packet_table.specs.declared.PacketType.the-variants.{Packet, Fragment}
+use Rattle.packet_table.specs.declared.DeliveryGuarantee.{DeliveryGuarantee}
+use Rattle.packet_table.specs.declared.DeliveryGuarantee.the-variants.{Unreliable, Reliable}
+use Rattle.packet_table.specs.declared.OrderingGuarantee.{OrderingGuarantee}
+use Rattle.packet_table.specs.declared.OrderingGuarantee.the-variants.{None, Sequenced, Ordered}
+use Rattle.packet_laws.proofs.Theorems.{layout-reads}
 use Rattle.sending.specs.Plan.{isListed, isSplit, isLong}
-use Rattle.sending.specs.Datagrams.{typeFor, countOf, ackedNow, headersFor, datagramFor}
-use Rattle.sending.specs.declared.Item.{Item}
+use Rattle.datagrams.specs.Datagrams.{typeFor, countOf, ackedNow, headersFor, datagramFor}
+use Rattle.datagrams.specs.declared.Item.{Item}
 use Rattle.agreement.proofs.Wire.{Saying, Beyond}
 
 -- of the listed combinations, ordered is reliable; and it is never split

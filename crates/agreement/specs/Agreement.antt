@@ -10,15 +10,15 @@ use lib.ListN.{length, getD, take, replicate}
 use Rattle.serial.specs.Order.{back}
 use Rattle.terms.specs.declared.Sizes.{Sizes}
 use Rattle.acknowledgment_laws.specs.Runs.{Typed}
-use Rattle.packet.specs.Numbers.{Bytes}
-use Rattle.ordering.specs.State.{State as Stream}
+use Rattle.packet_table.specs.Numbers.{Bytes}
+use Rattle.ordering_plan.specs.State.{State as Stream}
 use Rattle.ordering_laws.specs.Full.{others as otherIndices}
-use Rattle.arranging.specs.Ids.{placeOf}
-use Rattle.arranging.specs.Ordered.{stateAt}
-use Rattle.arranging.specs.declared.ids.StreamIds.{StreamIds}
+use Rattle.arranging_plan.specs.Ids.{placeOf}
+use Rattle.arranging_plan.specs.Ordered.{stateAt}
+use Rattle.arranging_plan.specs.declared.ids.StreamIds.{StreamIds}
 use Rattle.ends.specs.State.{State}
-use Rattle.receiving.specs.Plan.{numberOfAnswer}
-use Rattle.link.specs.Calls.{receiveOf}
+use Rattle.receiving_plan.specs.Plan.{numberOfAnswer}
+use Rattle.link_incoming.specs.Calls.{receiveOf}
 use Rattle.link_laws.specs.Calls.{Call, receives, takes as takesOn, sends as sendsOn, resends as resendsOn, writes as writesOn, drops as dropsOn, asks}
 use Rattle.link_laws.specs.Never.{New}
 use Rattle.agreement.specs.World.{Pair, Alike, World, start, noCopy}

@@ -8,22 +8,24 @@ use lib.Dec.{eqb}
 use lib.ListN.{length, getD, take}
 use Rattle.acknowledgment.specs.declared.DroppedPackets.{DroppedPackets}
 use Rattle.acknowledgment.specs.declared.DroppedPackets.the-variants.{Nothing as NoDrop, Packet as OneDrop, Refused as NotDropped}
-use Rattle.packet.specs.declared.DeliveryGuarantee.{DeliveryGuarantee}
-use Rattle.packet.specs.declared.DeliveryGuarantee.the-variants.{Unreliable, Reliable}
-use Rattle.packet.specs.declared.OrderingGuarantee.{OrderingGuarantee}
-use Rattle.packet.specs.declared.OrderingGuarantee.the-variants.{None, Sequenced, Ordered}
+use Rattle.packet_table.specs.declared.DeliveryGuarantee.{DeliveryGuarantee}
+use Rattle.packet_table.specs.declared.DeliveryGuarantee.the-variants.{Unreliable, Reliable}
+use Rattle.packet_table.specs.declared.OrderingGuarantee.{OrderingGuarantee}
+use Rattle.packet_table.specs.declared.OrderingGuarantee.the-variants.{None, Sequenced, Ordered}
 use Rattle.ordering.specs.declared.Taken.{Taken}
 use Rattle.ordering.specs.declared.Taken.the-variants.{Item, Nothing, Refused as NotTaken}
 use Rattle.ends.specs.State.{State}
 use Rattle.receiving.specs.Receive.{Step as Received}
-use Rattle.receiving.specs.declared.Answer.{Answer as Heard}
-use Rattle.receiving.specs.declared.Answer.the-variants.{Out, Held, Old, Dropped, Waiting, Heartbeat, Refused as NotReceived}
+use Rattle.receiving_plan.specs.declared.Answer.{Answer as Heard}
+use Rattle.receiving_plan.specs.declared.Answer.the-variants.{Out, Held, Old, Dropped, Waiting, Heartbeat, Refused as NotReceived}
 use Rattle.sending.specs.Send.{Step as Sent}
 use Rattle.sending.specs.declared.Answer.{Answer as Going}
 use Rattle.sending.specs.declared.Answer.the-variants.{Datagram, Refused as NotSent}
-use Rattle.sending.specs.declared.further.Further.{Further}
-use Rattle.sending.specs.declared.further.Further.the-variants.{Datagram as Fragment, Nothing as NoFragment, Refused as NotWritten}
-use Rattle.link.specs.Calls.{receiveOf, takeOf, sendOf, resendOf, fragmentOf, fragmentOutput, dropOf, dropOutput}
+use Rattle.datagrams.specs.declared.further.Further.{Further}
+use Rattle.datagrams.specs.declared.further.Further.the-variants.{Datagram as Fragment, Nothing as NoFragment, Refused as NotWritten}
+use Rattle.link_incoming.specs.Calls.{receiveOf, takeOf}
+use Rattle.link_outgoing.specs.Calls.{sendOf, resendOf, fragmentOf, fragmentOutput}
+use Rattle.link.specs.Calls.{dropOf, dropOutput}
 use Rattle.link_laws.specs.Calls.{Call, dropped, called}
 use Rattle.agreement.specs.World.{Pair, Copy, Mark, Back, World, latest, noBack, noCopy}
 

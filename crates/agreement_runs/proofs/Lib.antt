@@ -1,2 +1,1 @@
-pub mod May
 pub mod Computed

@@ -1,4 +1,5 @@
-// What `agreement` speaks of does happen: runs over whole ends, computed. No code: the contract is what they come to.
+// What `agreement` speaks of does happen: a run over whole ends with loss, repeats, a drop and a resend, from fresh ends and across
+// 65,535, computed. No code: the contract is what it comes to. A table that fills is the crate `agreement_filling`.
 ghost use Rattle.agreement_runs.specs.Runs.{Runs};
 
 pub fn runs_agree()

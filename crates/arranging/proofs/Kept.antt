@@ -7,13 +7,13 @@ use borrow.Author.Tests.{lt-ltb, le-ltb, ne-eqb}
 use lib.ListN.{length, getD, take, drop, set, take-append-drop}
 use lib.Seq.{set-getD, getD-take, length-take-le}
 use Rattle.keys.proofs.First.{first-at}
-use Rattle.ordering.specs.State.{fresh}
+use Rattle.ordering_plan.specs.State.{fresh}
 use Rattle.ordering.specs.Take.{nextOf, taken}
 use Rattle.ordering.specs.declared.Taken.{Taken}
 use Rattle.ordering.specs.declared.Taken.the-variants.{Item, Nothing, Refused}
-use Rattle.arranging.specs.Ids.{placeOf, madeAt}
-use Rattle.arranging.specs.Ordered.{part, put, streamAt, States, stateAt, storedAt, nextOn, takenOn}
-use Rattle.arranging.specs.declared.ids.StreamIds.{StreamIds}
+use Rattle.arranging_plan.specs.Ids.{placeOf, madeAt}
+use Rattle.arranging_plan.specs.Ordered.{part, put, streamAt, States, stateAt, storedAt, nextOn, takenOn}
+use Rattle.arranging_plan.specs.declared.ids.StreamIds.{StreamIds}
 
 pub put-same : (d : List ℕ) (a n : ℕ) → put d a n (part d a n) ≡ d
 put-same d a n = ap (λ (r : List ℕ). take a d ++ r) (take-append-drop n (drop a d)) ∙ take-append-drop a d

@@ -1,5 +1,2 @@
-pub mod Once
-pub mod Parts
 pub mod Kept
-pub mod Sound
-pub mod Gates
+pub mod Answers

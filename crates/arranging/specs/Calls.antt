@@ -1,45 +1,25 @@
 -- The two calls of a user of the ordered streams, as a whole: by the stream's id, "1, 2, 13; then .. 5, .. 7, 6".
-use Prim.Native.Nat.{ℕ, _+_, _*_}
-use mathlib.Core.Bool.{Bool, true, false, cond, not, _||_}
+use Prim.Native.Nat.{ℕ}
+use mathlib.Core.Bool.{cond}
 use mathlib.Core.List.{List}
 use mathlib.Core.Path.{_≡_}
 use lib.Dec.{ltb}
 use lib.ListN.{length}
-use Rattle.terms.specs.Sizes.{inRange}
 use Rattle.terms.specs.declared.Sizes.{Sizes}
-use Rattle.terms.specs.declared.Refusal.the-variants.{BadSizes, BadStorage, TooLong, BadState}
-use Rattle.ordering.specs.State.{written}
-use Rattle.ordering.specs.Arrange.{handedOut, arranged}
+use Rattle.terms.specs.declared.Refusal.the-variants.{TooLong}
+use Rattle.ordering_plan.specs.State.{written}
+use Rattle.ordering_plan.specs.Arrange.{handedOut, arranged}
 use Rattle.ordering.specs.Take.{takenOut}
 use Rattle.terms.specs.Gates.{through}
-use Rattle.ordering.specs.declared.Arranged.{Arranged}
-use Rattle.ordering.specs.declared.Arranged.the-variants.{Out, Held, Old, Refused}
+use Rattle.ordering_plan.specs.declared.Arranged.{Arranged}
+use Rattle.ordering_plan.specs.declared.Arranged.the-variants.{Refused}
 use Rattle.ordering.specs.declared.Taken.{Taken}
 use Rattle.ordering.specs.declared.Taken.the-variants.{Refused as NotTaken}
-use Rattle.terms.specs.declared.Gate.{Gate}
-use Rattle.terms.specs.declared.Gate.the-variants.{Open, Shut}
-use Rattle.arranging.specs.Ids.{placeOf}
-use Rattle.arranging.specs.Ordered.{States, LeavesAll, stateAt, storedAt, planOn, nextOn, takenOn, soundAll}
+use Rattle.arranging_plan.specs.Ids.{placeOf}
+use Rattle.arranging_plan.specs.Ordered.{States, LeavesAll, stateAt, storedAt, planOn, nextOn, takenOn}
+use Rattle.arranging_plan.specs.Gate.{gateOf, isRefused}
 use Rattle.arranging.specs.declared.ordered.AfterTake.{AfterTake}
 use Rattle.arranging.specs.declared.calls.AfterArrange.{AfterArrange}
-
--- 2: a table of 4 x 64 places, the bytes of 4 x 64 items or "an output buffer of 16 x F + 17" is too short
-unfoldable pub tooShort : ℕ → List ℕ → List ℕ → List ℕ → List ℕ → Bool
-tooShort f index lengths bytes output =
-    ltb (length index) 256 || (ltb (length lengths) 256 || (ltb (length bytes) (256 * f) || ltb (length output) (16 * f + 17)))
-
-unfoldable pub gateOf : Sizes → States → List ℕ → Gate
-gateOf z s output =
-    cond (not (inRange z)) (Shut BadSizes)
-    (cond (tooShort (z .«fragment_size») (s .index) (s .lengths) (s .bytes) output) (Shut BadStorage)
-    (cond (not (soundAll (z .«fragment_size») (s .counters) (s .index) (s .lengths))) (Shut BadState)
-    Open))
-
-abbrev pub isRefused : Arranged → Bool
-isRefused Out = false
-isRefused (Held k) = false
-isRefused Old = false
-isRefused (Refused why) = true
 
 -- an item comes on the stream with an id: after 5, 7 and 6 as planned
 unfoldable pub arrangeOf : Sizes → States → ℕ → ℕ → List ℕ → List ℕ → Arranged

@@ -1,5 +1,4 @@
-pub mod Ids
-pub mod Ordered
+pub mod Steps
 pub mod Sequenced
 pub mod Calls
 pub mod Sequence

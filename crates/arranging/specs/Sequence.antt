@@ -7,7 +7,7 @@ use Rattle.terms.specs.Refusals.{numberOf}
 use Rattle.terms.specs.declared.Refusal.the-variants.{NoStream, BadState}
 use Rattle.sequencing.specs.declared.Sequenced.{Sequenced}
 use Rattle.sequencing.specs.declared.Sequenced.the-variants.{Out as GoesOut, Dropped as IsDropped}
-use Rattle.arranging.specs.Ids.{placeOf, soundIds}
+use Rattle.arranging_plan.specs.Ids.{placeOf, soundIds}
 use Rattle.arranging.specs.Sequenced.{arrangedAt}
 use Rattle.arranging.specs.declared.sequenced.SequencingStreams.{SequencingStreams}
 use Rattle.arranging.specs.declared.calls.SequenceAnswer.{SequenceAnswer}

@@ -6,7 +6,7 @@ use lib.ListN.{getD, set, replicate}
 use Rattle.serial.specs.declared.ItemId.{ItemId}
 use Rattle.sequencing.specs.Sequence.{fresh, arranged, numbered}
 use Rattle.sequencing.specs.declared.SequencingStream.{SequencingStream}
-use Rattle.arranging.specs.Ids.{madeAt, noIds}
+use Rattle.arranging_plan.specs.Ids.{madeAt, noIds}
 use Rattle.arranging.specs.declared.sequenced.SequencingStreams.{SequencingStreams}
 use Rattle.arranging.specs.declared.sequenced.AfterArrange.{AfterArrange}
 use Rattle.arranging.specs.declared.sequenced.NewItem.{NewItem}

@@ -1,15 +1,15 @@
 // The calls of a user of the streams of a kind, by the stream's id. Each tries 1, 2, 13 first, then the rest in document 01's
 // order, and a refused one leaves everything as it was.
 ghost use mathlib.Core.Path.{_≡_};
-ghost use Rattle.arranging.specs.Ordered.{lendingAll};
+ghost use Rattle.arranging_plan.specs.Ordered.{lendingAll};
 ghost use Rattle.arranging.specs.Calls.{Arranges, Takes};
 ghost use Rattle.arranging.specs.Sequence.{toldOf, sequenced};
-use crate::gate;
 use crate::ordered;
 use crate::ordered::AfterTake;
 use crate::ordered::OrderingStreams;
 use crate::sequenced;
 use crate::sequenced::SequencingStreams;
+use arranging_plan::gate;
 use ordering::Arranged;
 use ordering::Taken;
 use sequencing::Sequenced;
@@ -51,13 +51,13 @@ pub fn arrange(
             streams,
         };
     }
-    let planned = ordered::judge(streams, index, id, item);
+    let planned = arranging_plan::ordered::judge(streams, index, id, item);
     let j = planned.at;
     let answer = planned.plan;
     if gate::refused(answer) {
         return AfterArrange { answer, streams };
     }
-    ordering::plan::hand_out(answer, payload, output);
+    ordering::doing::hand_out(answer, payload, output);
     AfterArrange {
         answer,
         streams: ordered::perform(

@@ -2,7 +2,7 @@
 ghost use mathlib.Core.Path.{_≡_};
 ghost use Prim.Native.Nat.{_≤_, _<_};
 ghost use Rattle.arranging.specs.Sequenced.{noStreams, streamAt, storedAt, arrangedAt, numberedAt};
-use crate::ids::StreamIds;
+use arranging_plan::ids::StreamIds;
 use sequencing::Sequenced;
 use sequencing::SequencingStream;
 use serial::ItemId;

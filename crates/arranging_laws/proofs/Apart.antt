@@ -8,7 +8,7 @@ use native.Mathlib.Omega.{arith}
 use lib.ListN.{length, take, drop}
 use lib.Seq.{take-length, drop-drop, paste, length-paste}
 use Rattle.laws.proofs.Paste.{part-same, part-other}
-use Rattle.arranging.specs.Ordered.{part, put}
+use Rattle.arranging_plan.specs.Ordered.{part, put}
 
 module _ (d p : List ℕ) (a n : ℕ) (whole : length p ≡ n) (room : a + n ≤ length d) where
   take-all : take n p ≡ p

@@ -14,14 +14,16 @@ use Rattle.terms.specs.declared.Sizes.{Sizes}
 use Rattle.serial.specs.declared.ItemId.{ItemId}
 use Rattle.terms.specs.declared.Gate.{Gate}
 use Rattle.terms.specs.declared.Gate.the-variants.{Open, Shut}
-use Rattle.arranging.specs.Ids.{placeOf}
-use Rattle.arranging.specs.Ordered.{States, planOn, takenOn}
-use Rattle.arranging.specs.Calls.{gateOf, isRefused, arrangeOf, arrangedOn, takeOf}
+use Rattle.arranging_plan.specs.Ids.{placeOf}
+use Rattle.arranging_plan.specs.Ordered.{States, planOn, takenOn}
+use Rattle.arranging_plan.specs.Gate.{gateOf, isRefused}
+use Rattle.arranging.specs.Calls.{arrangeOf, arrangedOn, takeOf}
 use Rattle.arranging.specs.Sequence.{sequenced}
 use Rattle.arranging.specs.declared.sequenced.SequencingStreams.{SequencingStreams}
-use Rattle.arranging.proofs.Parts.{place-lt}
-use Rattle.arranging.proofs.Sound.{all-ids, ids-four}
-use Rattle.arranging.proofs.Gates.{long-enough, gate-open, accepted, arrange-shut, arrange-long, arrange-open, take-shut, take-open}
+use Rattle.arranging_plan.proofs.Parts.{place-lt}
+use Rattle.arranging_plan.proofs.Sound.{all-ids, ids-four}
+use Rattle.arranging_plan.proofs.Gates.{long-enough, gate-open, accepted}
+use Rattle.arranging.proofs.Answers.{arrange-shut, arrange-long, arrange-open, take-shut, take-open}
 use Rattle.arranging_laws.specs.Sound.{Whole, WholeIds}
 use Rattle.arranging_laws.proofs.Ids.{made-whole}
 use Rattle.arranging_laws.proofs.Stays.{after-arrange, after-take}

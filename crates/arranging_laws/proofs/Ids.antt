@@ -14,10 +14,10 @@ use Rattle.laws.proofs.Cases.{both, off, each}
 use Rattle.keys.specs.Keys.{twice}
 use Rattle.keys.proofs.First.{first-le, first-min}
 use Rattle.keys.proofs.Twice.{exact, all-apart}
-use Rattle.arranging.specs.Ids.{placeOf, soundIds, madeAt}
-use Rattle.arranging.specs.declared.ids.StreamIds.{StreamIds}
+use Rattle.arranging_plan.specs.Ids.{placeOf, soundIds, madeAt}
+use Rattle.arranging_plan.specs.declared.ids.StreamIds.{StreamIds}
 use Rattle.arranging.proofs.Kept.{made-same}
-use Rattle.arranging.proofs.Sound.{ids-four}
+use Rattle.arranging_plan.proofs.Sound.{ids-four}
 use Rattle.arranging_laws.specs.Sound.{WholeIds}
 
 module _ (n : StreamIds) (w : WholeIds n) (id : ℕ) where

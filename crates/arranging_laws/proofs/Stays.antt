@@ -6,23 +6,23 @@ use mathlib.Core.Logic.{⊎-elim}
 use native.Mathlib.Omega.{arith}
 use lib.ListN.{length, length-set}
 use Rattle.laws.proofs.Cases.{lt-or-le}
-use Rattle.ordering.specs.State.{State, lending, numbered}
-use Rattle.ordering.specs.Arrange.{planOf, arranged}
+use Rattle.ordering_plan.specs.State.{State, lending, numbered}
+use Rattle.ordering_plan.specs.Arrange.{planOf, arranged}
 use Rattle.ordering.specs.Take.{nextPlace, nextOf, taken}
-use Rattle.ordering.specs.declared.Arranged.{Arranged}
-use Rattle.ordering.specs.declared.Arranged.the-variants.{Out, Held, Old, Refused}
+use Rattle.ordering_plan.specs.declared.Arranged.{Arranged}
+use Rattle.ordering_plan.specs.declared.Arranged.the-variants.{Out, Held, Old, Refused}
 use Rattle.ordering.specs.declared.Taken.{Taken}
 use Rattle.ordering.specs.declared.Taken.the-variants.{Item, Nothing, Refused as NotTaken}
-use Rattle.ordering.proofs.Planned.{held-place}
+use Rattle.ordering_plan.proofs.Planned.{held-place}
 use Rattle.ordering_laws.proofs.Put.{put-bytes}
 use Rattle.ordering_laws.proofs.Removed.{left-bytes}
 use Rattle.ordering_laws.proofs.Map.{found-there}
 use Rattle.ordering_laws.proofs.Stays.{arranged-good, taken-good, recounted}
-use Rattle.arranging.specs.Ids.{placeOf}
-use Rattle.arranging.specs.Ordered.{States, stateAt, storedAt, nextOn, takenOn}
+use Rattle.arranging_plan.specs.Ids.{placeOf}
+use Rattle.arranging_plan.specs.Ordered.{States, stateAt, storedAt, nextOn, takenOn}
 use Rattle.arranging.proofs.Kept.{put-same, next-here, next-away, taken-back}
-use Rattle.arranging.proofs.Parts.{block-end, part-length}
-use Rattle.arranging.proofs.Sound.{all-ids, ids-four}
+use Rattle.arranging_plan.proofs.Parts.{block-end, part-length}
+use Rattle.arranging_plan.proofs.Sound.{all-ids, ids-four}
 use Rattle.arranging_laws.specs.Sound.{Whole, afterArrange, afterSend}
 use Rattle.arranging_laws.proofs.Stored.{Fitting, stored-other, stored-whole, state-good}
 

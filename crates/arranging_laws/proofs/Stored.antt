@@ -13,18 +13,18 @@ use lib.ListN.{length, length-set}
 use lib.Seq.{getD-set-same, getD-set-other}
 use Rattle.laws.proofs.Cases.{lt-or-le}
 use Rattle.laws.proofs.Paste.{places-apart}
-use Rattle.ordering.specs.State.{State, fresh}
-use Rattle.ordering.specs.Gate.{sound}
-use Rattle.ordering.specs.declared.OrderingStream.{OrderingStream}
+use Rattle.ordering_plan.specs.State.{State, fresh}
+use Rattle.ordering_plan.specs.Gate.{sound}
+use Rattle.ordering_plan.specs.declared.OrderingStream.{OrderingStream}
 use Rattle.ordering_laws.specs.Held.{Good}
 use Rattle.ordering_laws.proofs.Stays.{good-sound, sound-good}
 use Rattle.ordering_laws.proofs.Found.{same?}
-use Rattle.arranging.specs.Ids.{placeOf, madeAt, soundIds}
-use Rattle.arranging.specs.Ordered.{part, States, streamAt, stateAt, storedAt, eachSound, soundAll}
-use Rattle.arranging.specs.declared.ids.StreamIds.{StreamIds}
-use Rattle.arranging.specs.declared.ordered.OrderingStreams.{OrderingStreams}
-use Rattle.arranging.proofs.Parts.{block-end}
-use Rattle.arranging.proofs.Sound.{each-zero, each-more, all-at, all-ids, fresh-at, room-for-all}
+use Rattle.arranging_plan.specs.Ids.{placeOf, madeAt, soundIds}
+use Rattle.arranging_plan.specs.Ordered.{part, States, streamAt, stateAt, storedAt, eachSound, soundAll}
+use Rattle.arranging_plan.specs.declared.ids.StreamIds.{StreamIds}
+use Rattle.arranging_plan.specs.declared.ordered.OrderingStreams.{OrderingStreams}
+use Rattle.arranging_plan.proofs.Parts.{block-end}
+use Rattle.arranging_plan.proofs.Sound.{each-zero, each-more, all-at, all-ids, fresh-at, room-for-all}
 use Rattle.arranging_laws.specs.Sound.{Whole, WholeIds}
 use Rattle.arranging_laws.proofs.Apart.{put-length, put-here, put-there}
 use Rattle.arranging_laws.proofs.Ids.{place-le, made-whole}

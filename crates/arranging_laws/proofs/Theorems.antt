@@ -7,8 +7,8 @@ use native.Mathlib.Omega.{arith}
 use lib.Seq.{getD-set-other}
 use Rattle.keys.specs.Keys.{twice}
 use Rattle.sequencing.specs.declared.SequencingStream.{SequencingStream}
-use Rattle.arranging.specs.Ids.{placeOf, soundIds, noIds}
-use Rattle.arranging.specs.Ordered.{noStreams, streamAt, storedAt, soundAll}
+use Rattle.arranging_plan.specs.Ids.{placeOf, soundIds, noIds}
+use Rattle.arranging_plan.specs.Ordered.{noStreams, streamAt, storedAt, soundAll}
 use Rattle.arranging.specs.Sequenced as sequenced
 use Rattle.arranging.specs.declared.sequenced.SequencingStreams.{SequencingStreams}
 use Rattle.arranging_laws.specs.Sound.{StaysSound}

@@ -4,8 +4,8 @@ use mathlib.Core.Path.{_≡_}
 use mathlib.Core.List.{List}
 use lib.ListN.{length}
 use Rattle.serial.specs.declared.ItemId.{ItemId}
-use Rattle.arranging.specs.Ids.{placeOf}
-use Rattle.arranging.specs.Ordered.{States, stateAt, nextOn, takenOn}
+use Rattle.arranging_plan.specs.Ids.{placeOf}
+use Rattle.arranging_plan.specs.Ordered.{States, stateAt, nextOn, takenOn}
 use Rattle.arranging.specs.Sequenced as sequenced
 use Rattle.arranging.specs.declared.sequenced.SequencingStreams.{SequencingStreams}
 use Rattle.arranging_laws.specs.Sound.{Whole, afterArrange, afterSend}

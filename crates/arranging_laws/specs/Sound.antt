@@ -7,14 +7,16 @@ use lib.ListN.{length}
 use Rattle.terms.specs.Sizes.{inRange}
 use Rattle.terms.specs.declared.Sizes.{Sizes}
 use Rattle.serial.specs.declared.ItemId.{ItemId}
-use Rattle.ordering.specs.Arrange.{planOf, arranged}
+use Rattle.ordering_plan.specs.Arrange.{planOf, arranged}
 use Rattle.terms.specs.declared.Gate.the-variants.{Open}
-use Rattle.arranging.specs.Ids.{placeOf, soundIds}
-use Rattle.arranging.specs.Ordered.{part, States, lendingAll, noStreams, streamAt, stateAt, storedAt, nextOn, takenOn, numberedAt, soundAll}
-use Rattle.arranging.specs.Calls.{gateOf, arrangeOf, arrangedOn, takeOf}
+use Rattle.arranging_plan.specs.Ids.{placeOf, soundIds}
+use Rattle.arranging_plan.specs.Ordered.{part, States, lendingAll, noStreams, streamAt, stateAt, storedAt, nextOn, takenOn, soundAll}
+use Rattle.arranging.specs.Steps.{numberedAt}
+use Rattle.arranging_plan.specs.Gate.{gateOf}
+use Rattle.arranging.specs.Calls.{arrangeOf, arrangedOn, takeOf}
 use Rattle.arranging.specs.Sequenced as sequenced
 use Rattle.arranging.specs.Sequence as sequence
-use Rattle.arranging.specs.declared.ids.StreamIds.{StreamIds}
+use Rattle.arranging_plan.specs.declared.ids.StreamIds.{StreamIds}
 use Rattle.arranging.specs.declared.sequenced.SequencingStreams.{SequencingStreams}
 
 -- ordered streams that 13 does not refuse, in enough storage; f is F

@@ -1,6 +1,6 @@
 // What the answers say: how many bytes at the start of the output were written.
+use datagrams::further::Further;
 use ordering::Taken;
-use sending::further::Further;
 use terms::Gate;
 
 pub fn sent(answer: sending::Answer) -> usize {

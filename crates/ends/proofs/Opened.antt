@@ -17,15 +17,17 @@ use Rattle.terms.proofs.Ranges.{InRange, in-range-means}
 use Rattle.received.specs.Record.{slotsOf}
 use Rattle.flight.specs.Lost.{Table}
 use Rattle.flight.specs.Places.{sound as flightSound}
-use Rattle.acknowledgment.specs.Gate.{lent, sound as acksSound}
-use Rattle.acknowledgment.proofs.Gates.{Lent, lent-means, sound-means}
-use Rattle.reassembly.specs.Gate.{stated, tooShort as partsTooShort, sound as partsSound}
+use Rattle.acks.specs.Gate.{lent, sound as acksSound}
+use Rattle.acks.proofs.Gates.{Lent, lent-means, sound-means}
+use Rattle.reassembly_plan.specs.Gate.{tooShort as partsTooShort, sound as partsSound}
+use Rattle.reassembly.specs.Call.{stated}
 use Rattle.reassembly.specs.Room.{Room}
-use Rattle.reassembly.proofs.Passing.{Long as PartsLong, long-enough as parts-long, open-room}
-use Rattle.arranging.specs.Ids.{soundIds}
-use Rattle.arranging.specs.Ordered.{RoomForAll, soundAll}
-use Rattle.arranging.proofs.Sound.{ids-four}
-use Rattle.arranging.proofs.Gates.{Long as OrderedLong, long-means as ordered-long, long-room}
+use Rattle.reassembly_plan.proofs.Opening.{Long as PartsLong, long-enough as parts-long}
+use Rattle.reassembly.proofs.Passing.{open-room}
+use Rattle.arranging_plan.specs.Ids.{soundIds}
+use Rattle.arranging_plan.specs.Ordered.{RoomForAll, soundAll}
+use Rattle.arranging_plan.proofs.Sound.{ids-four}
+use Rattle.arranging_plan.proofs.Gates.{Long as OrderedLong, long-means as ordered-long, long-room}
 use Rattle.ends.specs.State.{State}
 use Rattle.ends.specs.Gate.{isLent, isSound, gateOf}
 

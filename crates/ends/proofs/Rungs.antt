@@ -8,12 +8,12 @@ use Rattle.keys.specs.Keys.{twice}
 use Rattle.terms.specs.declared.Sizes.{Sizes}
 use Rattle.received.specs.Record.{slotsOf}
 use Rattle.flight.specs.Places.{sound as flightSound}
-use Rattle.acknowledgment.specs.State.{tableOf, slotOf}
-use Rattle.acknowledgment.specs.Gate.{lent, sound as acksSound}
-use Rattle.reassembly.specs.Gate.{tooShort as partsTooShort, sound as partsSound}
-use Rattle.arranging.specs.Ids.{soundIds}
-use Rattle.arranging.specs.Ordered.{soundAll}
-use Rattle.arranging.specs.Calls.{tooShort as orderedTooShort}
+use Rattle.acks.specs.State.{tableOf, slotOf}
+use Rattle.acks.specs.Gate.{lent, sound as acksSound}
+use Rattle.reassembly_plan.specs.Gate.{tooShort as partsTooShort, sound as partsSound}
+use Rattle.arranging_plan.specs.Ids.{soundIds}
+use Rattle.arranging_plan.specs.Ordered.{soundAll}
+use Rattle.arranging_plan.specs.Gate.{tooShort as orderedTooShort}
 use Rattle.ends.specs.State.{State, lending, countersOf, freshEnd}
 use Rattle.ends.specs.Gate.{isLent, isSound}
 

@@ -8,11 +8,11 @@ use Rattle.terms.specs.declared.Sizes.{Sizes}
 use Rattle.terms.specs.declared.Refusal.the-variants.{BadSizes, BadStorage, BadState}
 use Rattle.terms.specs.declared.Gate.{Gate}
 use Rattle.terms.specs.declared.Gate.the-variants.{Open, Shut}
-use Rattle.acknowledgment.specs.Gate.{lent, sound as acksSound}
-use Rattle.reassembly.specs.Gate.{tooShort as partsTooShort, sound as partsSound}
-use Rattle.arranging.specs.Ids.{soundIds}
-use Rattle.arranging.specs.Ordered.{soundAll}
-use Rattle.arranging.specs.Calls.{tooShort as orderedTooShort}
+use Rattle.acks.specs.Gate.{lent, sound as acksSound}
+use Rattle.reassembly_plan.specs.Gate.{tooShort as partsTooShort, sound as partsSound}
+use Rattle.arranging_plan.specs.Ids.{soundIds}
+use Rattle.arranging_plan.specs.Ordered.{soundAll}
+use Rattle.arranging_plan.specs.Gate.{tooShort as orderedTooShort}
 use Rattle.ends.specs.State.{State}
 
 -- not 2: "Lent storage: N x 16 x F in flight, C x 16 x F reassembly, 64 x F per ordered stream, and an output buffer of

@@ -2,9 +2,9 @@
 use mathlib.Core.Path.{_≡_}
 use mathlib.Core.List.{List}
 use Prim.Native.Nat.{ℕ}
-use Rattle.acknowledgment.specs.State.{State as Acks, freshCounters}
+use Rattle.acks.specs.State.{State as Acks, freshCounters}
 use Rattle.reassembly.specs.Effects.{State as Parts}
-use Rattle.arranging.specs.Ordered.{States, noStreams as noOrdered}
+use Rattle.arranging_plan.specs.Ordered.{States, noStreams as noOrdered}
 use Rattle.arranging.specs.Sequenced.{noStreams as noSequenced}
 use Rattle.arranging.specs.declared.sequenced.SequencingStreams.{SequencingStreams}
 use Rattle.ends.specs.declared.End.{End}

@@ -7,8 +7,8 @@ ghost use lib.ListN.{length};
 ghost use Rattle.received.specs.Record.{KnownLapped};
 ghost use Rattle.terms.specs.Sizes.{inRange};
 ghost use Rattle.terms.specs.declared.Gate.the-variants.{Open, Shut};
-ghost use Rattle.flight.specs.AtHome.{AtHome, KnownHome};
-ghost use Rattle.acknowledgment.specs.State.{tableOf, slotOf};
+ghost use Rattle.flight_home.specs.AtHome.{AtHome, KnownHome};
+ghost use Rattle.acks.specs.State.{tableOf, slotOf};
 ghost use Rattle.ends.specs.State.{lending, freshEnd};
 ghost use Rattle.ends.specs.Gate.{isLent, isSound, gateOf};
 use crate::End;
@@ -117,8 +117,8 @@ pub fn look(
     ) {
         return shut(Refusal::BadState);
     }
-    let lapped = acknowledgment::home::is_lapped(received);
-    if !acknowledgment::home::is_record_sound(received, lapped) {
+    let lapped = acks::home::is_lapped(received);
+    if !acks::home::is_record_sound(received, lapped) {
         return shut(Refusal::BadState);
     }
     open(home, lapped)
@@ -151,7 +151,7 @@ fn is_home(sizes: Sizes, end: End, number: &[u32], records: &[u64]) -> bool
     ensures { λ r. ⌜ (r ≡ true → AtHome (slotOf sizes) (tableOf sizes (now (number .entry))) (now (records .entry))) ⌝ }
 {
     let acks = end.acks;
-    acknowledgment::home::is_home(sizes, acks.sequence_number, number, records)
+    acks::home::is_home(sizes, acks.sequence_number, number, records)
 }
 
 // Nothing that is lent is shorter than stated, whatever the counters. For the crates above: requires sizes in range.
@@ -173,15 +173,15 @@ pub fn is_lent(
     requires { ⌜ inRange sizes ≡ true ⌝ }
     ensures { λ r. ⌜ r ≡ isLent sizes (lending freshEnd (now (received .entry)) (now (number .entry)) (now (records .entry)) (now (payloads .entry)) (now (slots .entry)) (now (entry .entry)) (now (header .entry)) (now (joined .entry)) (now (index .entry)) (now (lengths .entry)) (now (held .entry))) (now (output .entry)) ⌝ }
 {
-    if !acknowledgment::gate::is_lent(sizes, received, number, records, payloads) {
+    if !acks::gate::is_lent(sizes, received, number, records, payloads) {
         return false;
     }
     let f = sizes.fragment_size;
     let c = sizes.reassembly_slots;
-    if reassembly::gate::too_short(f, c, slots, entry, header, joined, output) {
+    if reassembly_plan::gate::too_short(f, c, slots, entry, header, joined, output) {
         return false;
     }
-    !arranging::gate::too_short(f, index, lengths, held, output)
+    !arranging_plan::gate::too_short(f, index, lengths, held, output)
 }
 
 // No table but the received record breaks a rule of 13, which is about no bytes. Requires sizes in range, each table to be
@@ -200,15 +200,15 @@ fn is_sound(
     requires { ⌜ (inRange sizes ≡ true) × (sizes .«packets_in_flight» ≤ length (now number)) × (sizes .«packets_in_flight» ≤ length (now records)) × (sizes .«reassembly_slots» ≤ length (now slots)) × (sizes .«reassembly_slots» ≤ length (now entry)) × (256 ≤ length (now index)) × (256 ≤ length (now lengths)) × (home ≡ true → AtHome (slotOf sizes) (tableOf sizes (now number)) (now records)) ⌝ }
     ensures { λ r. ⌜ r ≡ isSound sizes (lending end [] (now (number .entry)) (now (records .entry)) [] (now (slots .entry)) (now (entry .entry)) [] [] (now (index .entry)) (now (lengths .entry)) []) ⌝ }
 {
-    if !acknowledgment::home::is_flight_sound(sizes, number, records, home) {
+    if !acks::home::is_flight_sound(sizes, number, records, home) {
         return false;
     }
     let f = sizes.fragment_size;
     let c = sizes.reassembly_slots;
-    if !reassembly::gate::sound(f, &slots[..c], entry) {
+    if !reassembly_plan::gate::sound(f, &slots[..c], entry) {
         return false;
     }
-    if !arranging::ordered::sound(end.ordering, f, index, lengths) {
+    if !arranging_plan::ordered::sound(end.ordering, f, index, lengths) {
         return false;
     }
     let sequencing = end.sequencing;

@@ -5,7 +5,7 @@ ghost use mathlib.Core.Path.{_≡_};
 ghost use lib.ListN.{length};
 ghost use Rattle.sequence_buffer.specs.Buffer.{fresh};
 ghost use Rattle.ends.specs.State.{freshEnd};
-use acknowledgment::Acknowledgment;
+use acks::Acknowledgment;
 use arranging::ordered::OrderingStreams;
 use arranging::sequenced::SequencingStreams;
 use serial::PacketNumber;
@@ -43,7 +43,7 @@ pub fn new(received: &mut [u32], number: &mut [u32], slots: &mut [u32]) -> End
     ensures { λ _. ⌜ now (number .exit) ≡ fresh (length (now (number .entry))) ⌝ }
     ensures { λ _. ⌜ now (slots .exit) ≡ fresh (length (now (slots .entry))) ⌝ }
 {
-    let acks = acknowledgment::new(received, number);
+    let acks = acks::new(received, number);
     let reassembly = sequence_buffer::new(slots);
     End {
         acks,

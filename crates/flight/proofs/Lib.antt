@@ -6,5 +6,3 @@ pub mod Packing
 pub mod Stays
 pub mod Viewed
 pub mod Given
-pub mod Homes
-pub mod Taken

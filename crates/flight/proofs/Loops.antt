@@ -17,8 +17,7 @@ use Rattle.serial.specs.Order.{greater, back}
 use Rattle.sequence_buffer.specs.Buffer.{none}
 use Rattle.flight.specs.Entry.{lengthOf}
 use Rattle.flight.specs.Places.{countOf, overLong, firstFree}
-use Rattle.flight.specs.AtHome.{NoneLostBefore}
-use Rattle.flight.specs.Lost.{isLost, leastLost}
+use Rattle.flight.specs.Lost.{isLost, NoneLostBefore, leastLost}
 
 count-cons : (x : ℕ) (xs : List ℕ) → countOf (x ∷ xs) ≡ cond (ltb x 65536) (suc (countOf xs)) (countOf xs)
 unfolding countOf

@@ -3,4 +3,3 @@ pub mod Places
 pub mod Acked
 pub mod Lost
 pub mod View
-pub mod AtHome

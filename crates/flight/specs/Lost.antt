@@ -1,6 +1,6 @@
 -- Document 01, module 2: "`dropped_packets` removes, in rising numeric order, those less than the remote acknowledged number
 -- and more than 32 before it; ours gives one at a call, least first, until none."
-use Prim.Native.Nat.{ℕ, _*_, _≤_}
+use Prim.Native.Nat.{ℕ, _+_, _*_, _≤_, _<_}
 use mathlib.Core.Path.{_≡_}
 use mathlib.Core.Bool.{Bool, false, cond, _&&_}
 use mathlib.Core.List.{List, [], _∷_, _++_}
@@ -17,6 +17,11 @@ use Rattle.flight.specs.declared.lost.Drop.the-variants.{Nothing, Packet
 -- "less than the remote acknowledged number and more than 32 before it"
 unfoldable pub isLost : ℕ → ℕ → Bool
 isLost remote entry = ltb entry 65536 && (greater remote entry && ltb 32 (back remote entry))
+
+-- no number at the 32 places before one is lost
+pub record NoneLostBefore (remote end : ℕ) (number : List ℕ) : Type 0 where
+  pub whole : 32 ≤ end
+  pub kept : (j : ℕ) → end ≤ j + 32 → j < end → isLost remote (getD number j 0) ≡ false
 
 -- the least of the lost numbers, or none
 unfoldable pub leastLost : ℕ → List ℕ → ℕ

@@ -1,7 +1,8 @@
 // The packets in flight. Each place of the table has the number of a packet or none, the packet's record and its payload;
 // an entry keeps its place. The caller lends the columns and the bytes: place k has its payload at k times the bytes of a
 // slot. Read `store` first. Every function here is for the crates above: which numbers are counted, acknowledged and
-// dropped, and nothing of when that happens.
+// dropped, and nothing of when that happens. A number is looked for at every place here; where each packet stands at its own
+// place, `flight_home` has the quick ways.
 ghost use mathlib.Core.Path.{_≡_};
 ghost use Prim.Native.Nat.{_+_, _*_, _≤_, _<_};
 ghost use lib.ListN.{length, set};
@@ -12,10 +13,7 @@ use serial::ItemId;
 use serial::PacketNumber;
 
 pub mod acked;
-pub mod direct;
 pub mod entry;
-mod fits;
-pub mod home;
 pub mod lost;
 pub mod places;
 

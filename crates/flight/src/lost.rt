@@ -3,8 +3,7 @@ ghost use mathlib.Core.Path.{_≡_};
 ghost use mathlib.Core.Bool.{true, false};
 ghost use Prim.Native.Nat.{ℕ, _+_, _*_, _≤_, _<_};
 ghost use lib.ListN.{length, getD};
-ghost use Rattle.flight.specs.AtHome.{NoneLostBefore};
-ghost use Rattle.flight.specs.Lost.{isLost, leastLost, Table, dropOf, numberLeft, outputLeft};
+ghost use Rattle.flight.specs.Lost.{isLost, NoneLostBefore, leastLost, Table, dropOf, numberLeft, outputLeft};
 use crate::SentPacket;
 use serial::PacketNumber;
 

@@ -20,21 +20,23 @@ use Rattle.terms.specs.declared.Refusal.the-variants.{BadState}
 use Rattle.sequence_buffer.specs.Buffer.{none, holds, tooOld, moves, goes, emptied, advancedSlots, insertedSlots, removedSlots}
 use Rattle.sequence_buffer.proofs.Home.{Home, home-apart, home-fresh, home-inserted, home-removed}
 use Rattle.sequence_buffer.proofs.Held.{length-inserted}
-use Rattle.reassembly.specs.Words.{entryOf, entryWord}
-use Rattle.reassembly.specs.Plan.{slotOf, known, opened, found, grown, planOf}
+use Rattle.reassembly_plan.specs.Words.{entryOf, entryWord}
+use Rattle.reassembly_plan.specs.Plan.{slotOf, known, opened, found, grown, planOf}
 use Rattle.reassembly.specs.Effects.{State, complete, slotsAfter, entryAfter, performed}
-use Rattle.reassembly.specs.Gate.{entrySound, soundAt, sound, tooShort, gateOf, planAt, decided, handled}
-use Rattle.reassembly.specs.Room.{Growing}
-use Rattle.reassembly.specs.declared.plan.Fragment.{Fragment}
-use Rattle.reassembly.specs.declared.plan.Joining.{Joining}
-use Rattle.reassembly.specs.declared.plan.Plan.{Plan}
-use Rattle.reassembly.specs.declared.plan.Plan.the-variants.{Refuse, Make, Join}
+use Rattle.reassembly_plan.specs.Gate.{entrySound, soundAt, sound, tooShort, gateOf}
+use Rattle.reassembly.specs.Call.{planAt, decided, handled}
+use Rattle.reassembly_plan.specs.Table.{Growing}
+use Rattle.reassembly_plan.specs.declared.plan.Fragment.{Fragment}
+use Rattle.reassembly_plan.specs.declared.plan.Joining.{Joining}
+use Rattle.reassembly_plan.specs.declared.plan.Plan.{Plan}
+use Rattle.reassembly_plan.specs.declared.plan.Plan.the-variants.{Refuse, Make, Join}
 use Rattle.terms.specs.declared.Gate.{Gate}
 use Rattle.terms.specs.declared.Gate.the-variants.{Open, Shut}
-use Rattle.reassembly.proofs.Below.{all-of}
-use Rattle.reassembly.proofs.Sound.{entry-holds, opened-sound, grown-sound, found-sound, below-most, at-most}
+use Rattle.reassembly_plan.proofs.Below.{all-of}
+use Rattle.reassembly_plan.proofs.Sound.{entry-holds, opened-sound, grown-sound, found-sound, below-most, at-most}
 use Rattle.reassembly.proofs.Planned.{plan-joins}
-use Rattle.reassembly.proofs.Passing.{gate-opens, open-room}
+use Rattle.reassembly_plan.proofs.Opening.{gate-opens}
+use Rattle.reassembly.proofs.Passing.{open-room}
 use Rattle.fragmenter.specs.Runs.{Call, after, Fresh, StaysSound}
 use Rattle.fragmenter.proofs.Packed.{entry-again}
 

@@ -4,9 +4,9 @@ use Prim.Native.Nat.{ℕ, _+_, _*_, _/_, _%_, _<_}
 use native.Mathlib.Nat.{mod-eq-of-lt}
 use native.Mathlib.Omega.{arith}
 use lib.Arith.{digits-div, digits-mod}
-use Rattle.reassembly.specs.Words.{entryOf, entryWord, headerOf, headerWord}
-use Rattle.reassembly.specs.declared.words.Entry.{Entry}
-use Rattle.reassembly.specs.declared.words.AckHeader.{AckHeader}
+use Rattle.reassembly_plan.specs.Words.{entryOf, entryWord, headerOf, headerWord}
+use Rattle.reassembly_plan.specs.declared.words.Entry.{Entry}
+use Rattle.reassembly_plan.specs.declared.words.AckHeader.{AckHeader}
 use Rattle.fragmenter.specs.Unpacked.{Unpacked}
 
 -- the digit above `low` of a word

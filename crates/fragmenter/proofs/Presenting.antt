@@ -23,14 +23,15 @@ use Rattle.sequence_buffer.specs.Buffer.{none, fresh, holds, removedSlots}
 use Rattle.splitter.specs.Split.{needed, splitOf}
 use Rattle.splitter.specs.declared.Split.the-variants.{Pieces}
 use Rattle.splitter.proofs.Pieces.{begins, piece-at, piece-count, piece-full, splits}
-use Rattle.reassembly.specs.Words.{entryWord, headerWord}
-use Rattle.reassembly.specs.Plan.{found, grown, judged, passed, planOf}
+use Rattle.reassembly_plan.specs.Words.{entryWord, headerWord}
+use Rattle.reassembly_plan.specs.Plan.{found, grown, judged, passed, planOf}
 use Rattle.reassembly.specs.Effects.{State, slotsAfter, entryAfter, headerAfter, bytesAfter, outputAfter, performed, joinedAnswer, answerOf, written}
-use Rattle.reassembly.specs.Gate.{sound, tooShort, gateOf, decided, handled, told, outputOf}
-use Rattle.reassembly.specs.declared.words.Entry.{Entry}
-use Rattle.reassembly.specs.declared.words.AckHeader.{AckHeader}
-use Rattle.reassembly.specs.declared.plan.Joining.{Joining}
-use Rattle.reassembly.specs.declared.plan.Plan.the-variants.{Join}
+use Rattle.reassembly_plan.specs.Gate.{sound, tooShort, gateOf}
+use Rattle.reassembly.specs.Call.{decided, handled, told, outputOf}
+use Rattle.reassembly_plan.specs.declared.words.Entry.{Entry}
+use Rattle.reassembly_plan.specs.declared.words.AckHeader.{AckHeader}
+use Rattle.reassembly_plan.specs.declared.plan.Joining.{Joining}
+use Rattle.reassembly_plan.specs.declared.plan.Plan.the-variants.{Join}
 use Rattle.reassembly.specs.declared.effects.Answer.the-variants.{Waiting, Whole}
 use Rattle.terms.specs.declared.Gate.the-variants.{Open}
 use Rattle.fragmenter.specs.Present.{part, countOf, pieceOf, presented, Ready, GivesBack}

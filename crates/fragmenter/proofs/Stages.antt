@@ -17,8 +17,8 @@ use Rattle.laws.proofs.Bits.{bits-zero, bits-lt, bits-taken}
 use Rattle.laws.proofs.Cases.{case}
 use Rattle.serial.specs.Order.{back}
 use Rattle.sequence_buffer.specs.Buffer.{none, fresh, holds, tooOld, moves, goes, emptied, advancedSlots, insertedSlots, removedSlots}
-use Rattle.reassembly.specs.Plan.{opened}
-use Rattle.reassembly.specs.declared.words.Entry.{Entry}
+use Rattle.reassembly_plan.specs.Plan.{opened}
+use Rattle.reassembly_plan.specs.declared.words.Entry.{Entry}
 
 -- the ids below k
 abbrev pub all-ids : ℕ → ℕ

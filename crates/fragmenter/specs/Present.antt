@@ -10,9 +10,9 @@ use Rattle.sequence_buffer.specs.Buffer.{fresh, tooOld}
 use Rattle.splitter.specs.Split.{pieces, splitOf}
 use Rattle.splitter.specs.declared.Split.the-variants.{Pieces}
 use Rattle.reassembly.specs.Effects.{State, written}
-use Rattle.reassembly.specs.Gate.{handled, told, outputOf}
-use Rattle.reassembly.specs.declared.words.AckHeader.{AckHeader}
-use Rattle.reassembly.specs.declared.plan.Fragment.{Fragment}
+use Rattle.reassembly.specs.Call.{handled, told, outputOf}
+use Rattle.reassembly_plan.specs.declared.words.AckHeader.{AckHeader}
+use Rattle.reassembly_plan.specs.declared.plan.Fragment.{Fragment}
 use Rattle.reassembly.specs.declared.effects.Answer.the-variants.{Waiting, Whole}
 use Rattle.fragmenter.specs.Runs.{Fresh}
 

@@ -7,8 +7,9 @@ use Rattle.terms.specs.declared.Sizes.{Sizes}
 use Rattle.terms.specs.declared.Refusal.the-variants.{BadState}
 use Rattle.sequence_buffer.specs.Buffer.{fresh}
 use Rattle.reassembly.specs.Effects.{State}
-use Rattle.reassembly.specs.Gate.{gateOf, handled}
-use Rattle.reassembly.specs.declared.plan.Fragment.{Fragment}
+use Rattle.reassembly_plan.specs.Gate.{gateOf}
+use Rattle.reassembly.specs.Call.{handled}
+use Rattle.reassembly_plan.specs.declared.plan.Fragment.{Fragment}
 use Rattle.terms.specs.declared.Gate.the-variants.{Shut}
 
 -- a call of `handle_fragment`, with whatever output it is lent

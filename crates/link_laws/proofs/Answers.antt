@@ -15,50 +15,53 @@ use Rattle.terms.specs.declared.Gate.the-variants.{Open}
 use Rattle.flight.specs.Lost.{dropOf as lostOf}
 use Rattle.flight.specs.declared.lost.Drop.{Drop}
 use Rattle.flight.specs.declared.lost.Drop.the-variants.{Nothing as NoDrop, Packet as OneDrop}
-use Rattle.acknowledgment.specs.State.{tableOf}
+use Rattle.acks.specs.State.{tableOf}
 use Rattle.acknowledgment.specs.Calls.{answeredBy, numberOfDropped}
 use Rattle.splitter.specs.Split.{needed}
-use Rattle.packet.specs.Read.{readOf, followingRead, unknown, misfit, standardOf, headersOf}
-use Rattle.packet.specs.Table.{follows}
-use Rattle.packet.specs.Layout.{payloadAt}
-use Rattle.packet.specs.declared.Headers.{Headers}
-use Rattle.packet.specs.declared.PacketType.{PacketType}
-use Rattle.packet.specs.declared.PacketType.the-variants.{Packet, Fragment, Heartbeat}
-use Rattle.packet.specs.declared.OrderingGuarantee.{OrderingGuarantee}
-use Rattle.packet.specs.declared.OrderingGuarantee.the-variants.{None, Sequenced as InSequence, Ordered as InOrder}
+use Rattle.packet.specs.Read.{readOf, followingRead, unknown, standardOf, headersOf}
+use Rattle.packet_table.specs.Table.{misfit}
+use Rattle.packet_table.specs.Table.{follows}
+use Rattle.packet_table.specs.Layout.{payloadAt}
+use Rattle.packet_table.specs.declared.Headers.{Headers}
+use Rattle.packet_table.specs.declared.PacketType.{PacketType}
+use Rattle.packet_table.specs.declared.PacketType.the-variants.{Packet, Fragment, Heartbeat}
+use Rattle.packet_table.specs.declared.OrderingGuarantee.{OrderingGuarantee}
+use Rattle.packet_table.specs.declared.OrderingGuarantee.the-variants.{None, Sequenced as InSequence, Ordered as InOrder}
 use Rattle.packet.specs.declared.Read.{Read}
 use Rattle.packet.specs.declared.Read.the-variants.{Found, Refused as Unread}
-use Rattle.reassembly.specs.Plan.{slotOf, known, found, judged, passed, planOf as planPart}
+use Rattle.reassembly_plan.specs.Plan.{slotOf, known, found, judged, passed, planOf as planPart}
 use Rattle.reassembly.specs.Effects.{complete, joinedAnswer, answerOf}
-use Rattle.reassembly.specs.declared.words.Entry.{Entry}
-use Rattle.reassembly.specs.declared.plan.Fragment.{Fragment as FragmentOf}
-use Rattle.reassembly.specs.declared.plan.Plan.{Plan as PartPlan}
-use Rattle.reassembly.specs.declared.plan.Plan.the-variants.{Refuse as RefusePart, Make, Join}
-use Rattle.ordering.specs.State.{placeOf as heldPlace}
-use Rattle.ordering.specs.Arrange.{planOf as itemPlan, numberOfArranged}
+use Rattle.reassembly_plan.specs.declared.words.Entry.{Entry}
+use Rattle.reassembly_plan.specs.declared.plan.Fragment.{Fragment as FragmentOf}
+use Rattle.reassembly_plan.specs.declared.plan.Plan.{Plan as PartPlan}
+use Rattle.reassembly_plan.specs.declared.plan.Plan.the-variants.{Refuse as RefusePart, Make, Join}
+use Rattle.ordering_plan.specs.State.{placeOf as heldPlace}
+use Rattle.ordering_plan.specs.Arrange.{planOf as itemPlan, numberOfArranged}
 use Rattle.ordering.specs.Take.{nextPlace, nextOf, numberOfTaken}
-use Rattle.ordering.specs.declared.OrderingStream.{OrderingStream}
-use Rattle.ordering.specs.declared.Arranged.{Arranged}
-use Rattle.ordering.specs.declared.Arranged.the-variants.{Out, Held, Old, Refused}
+use Rattle.ordering_plan.specs.declared.OrderingStream.{OrderingStream}
+use Rattle.ordering_plan.specs.declared.Arranged.{Arranged}
+use Rattle.ordering_plan.specs.declared.Arranged.the-variants.{Out, Held, Old, Refused}
 use Rattle.sequencing.specs.Sequence.{sequenceOf}
 use Rattle.sequencing.specs.declared.Sequenced.{Sequenced as Sequence}
 use Rattle.sequencing.specs.declared.Sequenced.the-variants.{Out as Newest, Dropped}
-use Rattle.arranging.specs.Ids.{placeOf}
-use Rattle.arranging.specs.Ordered.{States, streamAt, stateAt, part, planOn, nextOn}
+use Rattle.arranging_plan.specs.Ids.{placeOf}
+use Rattle.arranging_plan.specs.Ordered.{States, streamAt, stateAt, part, planOn, nextOn}
 use Rattle.arranging.specs.Sequenced.{streamAt as sequencedAt}
-use Rattle.arranging.specs.declared.ordered.Planned.{Planned}
-use Rattle.arranging.specs.declared.ordered.OrderingStreams.{OrderingStreams}
+use Rattle.arranging_plan.specs.declared.ordered.Planned.{Planned}
+use Rattle.arranging_plan.specs.declared.ordered.OrderingStreams.{OrderingStreams}
 use Rattle.ends.specs.State.{State}
 use Rattle.ends.specs.Gate.{gateOf}
-use Rattle.receiving.specs.Plan.{sequencedPlan, sequencedTold, orderedAs, planBy, planOf, told, itemOf, numberOfAnswer}
-use Rattle.receiving.specs.Fragments.{partOf, partPlan, partSlot, partsAfter, toldPart}
+use Rattle.receiving_plan.specs.Plan.{sequencedPlan, sequencedTold, orderedAs, planBy, planOf, told, itemOf, numberOfAnswer}
+use Rattle.receiving_fragments.specs.Fragments.{partOf, partPlan, partSlot, partsAfter, toldPart}
 use Rattle.receiving.specs.Receive.{byType, readAs, receivedOf}
-use Rattle.receiving.specs.declared.Item.{Item as ReceivedItem}
+use Rattle.receiving_plan.specs.declared.Item.{Item as ReceivedItem}
 use Rattle.sending.specs.Plan.{planOf as sendPlan, isListed, isLong, placeBy, isFull}
 use Rattle.sending.specs.Send.{transmittedOf, numberOfSent}
-use Rattle.sending.specs.Further.{hasFurther, furtherOf}
-use Rattle.sending.specs.declared.Item.{Item}
-use Rattle.link.specs.Calls.{receiveOf, takeOf, sendOf, resendOf, fragmentOf, dropOf, reportOf}
+use Rattle.datagrams.specs.Further.{hasFurther, furtherOf}
+use Rattle.datagrams.specs.declared.Item.{Item}
+use Rattle.link_incoming.specs.Calls.{receiveOf, takeOf}
+use Rattle.link_outgoing.specs.Calls.{sendOf, resendOf, fragmentOf}
+use Rattle.link.specs.Calls.{dropOf, reportOf}
 use Rattle.link_laws.specs.Calls.{Call, receives, takes, sends, resends, writes, drops, asks, lentTo, numberOfCall}
 use Rattle.link_laws.specs.Never.{Other}
 

@@ -12,19 +12,19 @@ use Rattle.terms.specs.declared.Sizes.{Sizes}
 use Rattle.terms.specs.declared.Gate.the-variants.{Open}
 use Rattle.terms.proofs.Ranges.{in-range-means}
 use Rattle.sequence_buffer.specs.Buffer.{none, fresh}
-use Rattle.acknowledgment.specs.Gate.{lent}
+use Rattle.acks.specs.Gate.{lent}
 use Rattle.acknowledgment_laws.proofs.Unbroken.{Good, good-lent, good-sound, good-fresh}
 use Rattle.reassembly.specs.Effects.{State as Parts}
-use Rattle.reassembly.specs.Gate.{tooShort as partsTooShort, sound as partsSound}
+use Rattle.reassembly_plan.specs.Gate.{tooShort as partsTooShort, sound as partsSound}
 use Rattle.fragmenter.proofs.Keeping.{Keeps, kept-fresh, kept-sound}
-use Rattle.ordering.specs.State.{fresh as freshOrdered}
-use Rattle.ordering.specs.declared.OrderingStream.{OrderingStream}
+use Rattle.ordering_plan.specs.State.{fresh as freshOrdered}
+use Rattle.ordering_plan.specs.declared.OrderingStream.{OrderingStream}
 use Rattle.sequencing.specs.Sequence.{fresh as freshSequenced}
 use Rattle.sequencing.specs.declared.SequencingStream.{SequencingStream}
-use Rattle.arranging.specs.Ordered.{States}
-use Rattle.arranging.specs.Calls.{tooShort as orderedTooShort}
+use Rattle.arranging_plan.specs.Ordered.{States}
+use Rattle.arranging_plan.specs.Gate.{tooShort as orderedTooShort}
 use Rattle.arranging.specs.declared.sequenced.SequencingStreams.{SequencingStreams}
-use Rattle.arranging.proofs.Gates.{long-enough}
+use Rattle.arranging_plan.proofs.Gates.{long-enough}
 use Rattle.arranging_laws.specs.Sound.{Whole, WholeIds}
 use Rattle.arranging_laws.proofs.Theorems.{stays-sound}
 use Rattle.ends.specs.State.{State, lending, freshEnd}

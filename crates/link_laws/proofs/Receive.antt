@@ -11,50 +11,51 @@ use borrow.Author.Tests.{eqb-false, ltb-false, le-ltb}
 use Rattle.laws.proofs.Cases.{case}
 use Rattle.terms.specs.Sizes.{inRange}
 use Rattle.terms.specs.declared.Sizes.{Sizes}
-use Rattle.acknowledgment.specs.State.{State as Acks}
+use Rattle.acks.specs.State.{State as Acks}
 use Rattle.acknowledgment_laws.proofs.Unbroken.{Good, good-come}
-use Rattle.packet.specs.Numbers.{Bytes}
+use Rattle.packet_table.specs.Numbers.{Bytes}
 use Rattle.packet.specs.Read.{readOf}
-use Rattle.packet.specs.declared.Headers.{Headers}
-use Rattle.packet.specs.declared.PacketType.{PacketType}
-use Rattle.packet.specs.declared.PacketType.the-variants.{Packet, Fragment, Heartbeat}
-use Rattle.packet.specs.declared.DeliveryGuarantee.{DeliveryGuarantee}
-use Rattle.packet.specs.declared.DeliveryGuarantee.the-variants.{Unreliable, Reliable}
-use Rattle.packet.specs.declared.OrderingGuarantee.{OrderingGuarantee}
-use Rattle.packet.specs.declared.OrderingGuarantee.the-variants.{None, Sequenced as InSequence, Ordered as InOrder}
+use Rattle.packet_table.specs.declared.Headers.{Headers}
+use Rattle.packet_table.specs.declared.PacketType.{PacketType}
+use Rattle.packet_table.specs.declared.PacketType.the-variants.{Packet, Fragment, Heartbeat}
+use Rattle.packet_table.specs.declared.DeliveryGuarantee.{DeliveryGuarantee}
+use Rattle.packet_table.specs.declared.DeliveryGuarantee.the-variants.{Unreliable, Reliable}
+use Rattle.packet_table.specs.declared.OrderingGuarantee.{OrderingGuarantee}
+use Rattle.packet_table.specs.declared.OrderingGuarantee.the-variants.{None, Sequenced as InSequence, Ordered as InOrder}
 use Rattle.packet.specs.declared.Read.{Read}
 use Rattle.packet.specs.declared.Read.the-variants.{Found, Refused as Unread}
-use Rattle.packet.proofs.Theorems.{accepts}
-use Rattle.reassembly.specs.Plan.{slotOf}
+use Rattle.packet_laws.proofs.Theorems.{accepts}
+use Rattle.reassembly_plan.specs.Plan.{slotOf}
 use Rattle.reassembly.specs.Effects.{State as Parts, performed, headerAfter, bytesAfter, roomOf}
-use Rattle.reassembly.specs.Gate.{gateOf as partsGate, decided, handled, stated, restored}
-use Rattle.reassembly.specs.declared.plan.Fragment.{Fragment as FragmentOf}
-use Rattle.reassembly.specs.declared.plan.Plan.{Plan as PartPlan}
-use Rattle.reassembly.specs.declared.plan.Plan.the-variants.{Refuse as RefusePart, Make, Join}
+use Rattle.reassembly_plan.specs.Gate.{gateOf as partsGate}
+use Rattle.reassembly.specs.Call.{decided, handled, stated, restored}
+use Rattle.reassembly_plan.specs.declared.plan.Fragment.{Fragment as FragmentOf}
+use Rattle.reassembly_plan.specs.declared.plan.Plan.{Plan as PartPlan}
+use Rattle.reassembly_plan.specs.declared.plan.Plan.the-variants.{Refuse as RefusePart, Make, Join}
 use Rattle.reassembly.specs.declared.effects.Answer.{Answer as PartAnswer}
 use Rattle.reassembly.specs.declared.effects.Answer.the-variants.{Waiting, Whole as IsWhole, Refused as NotJoined}
 use Rattle.fragmenter.proofs.Keeping.{Keeps, kept-call}
-use Rattle.ordering.specs.State.{fresh as freshOrdered}
-use Rattle.ordering.specs.Arrange.{planOf as itemPlan, arranged}
-use Rattle.ordering.specs.declared.Arranged.{Arranged}
-use Rattle.ordering.specs.declared.Arranged.the-variants.{Out, Held, Old, Refused}
+use Rattle.ordering_plan.specs.State.{fresh as freshOrdered}
+use Rattle.ordering_plan.specs.Arrange.{planOf as itemPlan, arranged}
+use Rattle.ordering_plan.specs.declared.Arranged.{Arranged}
+use Rattle.ordering_plan.specs.declared.Arranged.the-variants.{Out, Held, Old, Refused}
 use Rattle.sequencing.specs.Sequence.{fresh as freshSequenced, sequenceOf, topped}
 use Rattle.sequencing.specs.declared.Sequenced.{Sequenced as Sequence}
 use Rattle.sequencing.specs.declared.Sequenced.the-variants.{Out as Newest, Dropped}
 use Rattle.sequencing.specs.declared.SequencingStream.{SequencingStream}
-use Rattle.arranging.specs.Ids.{placeOf}
-use Rattle.arranging.specs.Ordered.{States, part, streamAt, stateAt, storedAt, planOn}
+use Rattle.arranging_plan.specs.Ids.{placeOf}
+use Rattle.arranging_plan.specs.Ordered.{States, part, streamAt, stateAt, storedAt, planOn}
 use Rattle.arranging.specs.Sequenced.{arrangedAt, streamAt as sequencedAt}
-use Rattle.arranging.specs.declared.ids.StreamIds.{StreamIds}
+use Rattle.arranging_plan.specs.declared.ids.StreamIds.{StreamIds}
 use Rattle.arranging.specs.declared.sequenced.SequencingStreams.{SequencingStreams}
-use Rattle.arranging.proofs.Parts.{place-lt}
-use Rattle.arranging.proofs.Sound.{all-ids, ids-four}
+use Rattle.arranging_plan.proofs.Parts.{place-lt}
+use Rattle.arranging_plan.proofs.Sound.{all-ids, ids-four}
 use Rattle.arranging_laws.specs.Sound.{Whole, WholeIds}
 use Rattle.arranging_laws.proofs.Theorems.{stays-sound}
 use Rattle.ends.specs.State.{State}
-use Rattle.receiving.specs.Plan.{sequencedPlan, orderedAs, planBy, planOf}
-use Rattle.receiving.specs.Packets.{acksBy}
-use Rattle.receiving.specs.Fragments.{partOf, partPlan, partsAfter, partAnswer, acksAtWhole}
+use Rattle.receiving_plan.specs.Plan.{sequencedPlan, orderedAs, planBy, planOf}
+use Rattle.receiving_plan.specs.Heard.{acksBy}
+use Rattle.receiving_fragments.specs.Fragments.{partOf, partPlan, partsAfter, partAnswer, acksAtWhole}
 use Rattle.receiving.specs.Receive.{hearing, packetAs, packetOf, byType, readAs, receivedOf}
 use Rattle.link_laws.proofs.Lists.{set-each, paste-long}
 use Rattle.link_laws.proofs.Kept.{KeptParts, OrderedItem, KeptOrdered, SequencedItem, KeptSequenced, Kept, table-sound, parts-long}

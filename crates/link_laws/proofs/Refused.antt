@@ -13,49 +13,50 @@ use Rattle.terms.specs.declared.Refusal.{Refusal}
 use Rattle.terms.specs.declared.Refusal.the-variants.{ExceededMaxFragments, MissingAckHeader}
 use Rattle.terms.specs.declared.Gate.{Gate}
 use Rattle.terms.specs.declared.Gate.the-variants.{Open, Shut}
-use Rattle.acknowledgment.specs.State.{tableOf}
+use Rattle.acks.specs.State.{tableOf}
 use Rattle.packet.specs.Read.{readOf}
-use Rattle.packet.specs.declared.Headers.{Headers}
-use Rattle.packet.specs.declared.PacketType.{PacketType}
-use Rattle.packet.specs.declared.PacketType.the-variants.{Packet, Fragment, Heartbeat}
-use Rattle.packet.specs.declared.OrderingGuarantee.{OrderingGuarantee}
-use Rattle.packet.specs.declared.OrderingGuarantee.the-variants.{None, Sequenced as InSequence, Ordered as InOrder}
-use Rattle.packet.specs.declared.DeliveryGuarantee.{DeliveryGuarantee}
+use Rattle.packet_table.specs.declared.Headers.{Headers}
+use Rattle.packet_table.specs.declared.PacketType.{PacketType}
+use Rattle.packet_table.specs.declared.PacketType.the-variants.{Packet, Fragment, Heartbeat}
+use Rattle.packet_table.specs.declared.OrderingGuarantee.{OrderingGuarantee}
+use Rattle.packet_table.specs.declared.OrderingGuarantee.the-variants.{None, Sequenced as InSequence, Ordered as InOrder}
+use Rattle.packet_table.specs.declared.DeliveryGuarantee.{DeliveryGuarantee}
 use Rattle.packet.specs.declared.Read.{Read}
 use Rattle.packet.specs.declared.Read.the-variants.{Found, Refused as Unread}
 use Rattle.reassembly.specs.Effects.{State as Parts, complete, numAfter, slotsAfter, entryAfter, headerAfter, bytesAfter, outputAfter, performed, joinedAnswer, answerOf, roomOf}
-use Rattle.reassembly.specs.Gate.{stated, restored}
-use Rattle.reassembly.specs.declared.plan.Fragment.{Fragment as FragmentOf}
-use Rattle.reassembly.specs.declared.plan.Plan.{Plan as PartPlan}
-use Rattle.reassembly.specs.declared.plan.Plan.the-variants.{Refuse as RefusePart, Make, Join}
-use Rattle.ordering.specs.declared.Arranged.{Arranged}
-use Rattle.ordering.specs.declared.Arranged.the-variants.{Out as GoesOut, Held as IsHeld, Old as IsOld, Refused as IsRefused}
+use Rattle.reassembly.specs.Call.{stated, restored}
+use Rattle.reassembly_plan.specs.declared.plan.Fragment.{Fragment as FragmentOf}
+use Rattle.reassembly_plan.specs.declared.plan.Plan.{Plan as PartPlan}
+use Rattle.reassembly_plan.specs.declared.plan.Plan.the-variants.{Refuse as RefusePart, Make, Join}
+use Rattle.ordering_plan.specs.declared.Arranged.{Arranged}
+use Rattle.ordering_plan.specs.declared.Arranged.the-variants.{Out as GoesOut, Held as IsHeld, Old as IsOld, Refused as IsRefused}
 use Rattle.ordering.specs.declared.Taken.{Taken}
 use Rattle.ordering.specs.declared.Taken.the-variants.{Item, Nothing, Refused as NotTaken}
 use Rattle.sequencing.specs.Sequence.{sequenceOf}
 use Rattle.sequencing.specs.declared.Sequenced.{Sequenced as Sequence}
 use Rattle.sequencing.specs.declared.Sequenced.the-variants.{Out as Newest, Dropped as Passed}
-use Rattle.arranging.specs.Ids.{placeOf}
-use Rattle.arranging.specs.Ordered.{planOn, nextOn}
+use Rattle.arranging_plan.specs.Ids.{placeOf}
+use Rattle.arranging_plan.specs.Ordered.{planOn, nextOn}
 use Rattle.arranging.specs.Sequenced.{streamAt as sequencedAt}
-use Rattle.arranging.specs.declared.ordered.Planned.{Planned}
+use Rattle.arranging_plan.specs.declared.ordered.Planned.{Planned}
 use Rattle.ends.specs.State.{State}
 use Rattle.ends.specs.Gate.{gateOf}
-use Rattle.receiving.specs.Plan.{sequencedPlan, sequencedTold, orderedAs, planBy, planOf, itemOf}
-use Rattle.receiving.specs.Fragments.{partOf, partPlan, partSlot, partsAfter, acksAtWhole, toldPart}
+use Rattle.receiving_plan.specs.Plan.{sequencedPlan, sequencedTold, orderedAs, planBy, planOf, itemOf}
+use Rattle.receiving_fragments.specs.Fragments.{partOf, partPlan, partSlot, partsAfter, acksAtWhole, toldPart}
 use Rattle.receiving.specs.Receive.{hearing, packetAs, packetOf, fragmentOf as partOutcome, byType, readAs, receivedOf}
-use Rattle.receiving.specs.declared.Item.{Item as ReceivedItem}
-use Rattle.receiving.specs.declared.Answer.the-variants.{Out, Held, Old, Dropped, Waiting, Refused}
+use Rattle.receiving_plan.specs.declared.Item.{Item as ReceivedItem}
+use Rattle.receiving_plan.specs.declared.Answer.the-variants.{Out, Held, Old, Dropped, Waiting, Refused}
 use Rattle.sending.specs.Plan.{planOf as sendPlan}
 use Rattle.sending.specs.Send.{transmittedAs, transmittedOf}
-use Rattle.sending.specs.Further.{hasFurther, furtherOf, furtherOutput}
-use Rattle.sending.specs.declared.Item.{Item as SentItem}
+use Rattle.datagrams.specs.Further.{hasFurther, furtherOf, furtherOutput}
+use Rattle.datagrams.specs.declared.Item.{Item as SentItem}
 use Rattle.sending.specs.declared.Answer.the-variants.{Refused as NotSent}
 use Rattle.sending.specs.declared.plan.Plan.{Plan as SendPlan}
 use Rattle.sending.specs.declared.plan.Plan.the-variants.{Refuse as RefuseSend, Send}
-use Rattle.sending.specs.declared.further.Further.the-variants.{Datagram as OneMore, Refused as NotWritten}
+use Rattle.datagrams.specs.declared.further.Further.the-variants.{Datagram as OneMore, Refused as NotWritten}
 use Rattle.flight.specs.declared.SentPacket.{SentPacket}
-use Rattle.link.specs.Calls.{receiveOf, takenBy, takeOf, sendOf, resendOf, itemAgain, fragmentOf, fragmentOutput}
+use Rattle.link_incoming.specs.Calls.{receiveOf, takenBy, takeOf}
+use Rattle.link_outgoing.specs.Calls.{sendOf, resendOf, itemAgain, fragmentOf, fragmentOutput}
 use Rattle.link_laws.specs.Refused.{Unchanged, PartsAlone, RefusedLeaves}
 
 same : (s : State) (output : List ℕ) → Unchanged s output s output

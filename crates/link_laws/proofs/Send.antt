@@ -13,21 +13,21 @@ use Rattle.serial.specs.declared.ItemId.{ItemId}
 use Rattle.terms.specs.Sizes.{inRange}
 use Rattle.terms.specs.declared.Sizes.{Sizes}
 use Rattle.terms.proofs.Ranges.{in-range-means}
-use Rattle.acknowledgment.specs.State.{tableOf}
+use Rattle.acks.specs.State.{tableOf}
 use Rattle.acknowledgment_laws.proofs.Unbroken.{Good, good-go}
 use Rattle.splitter.specs.Split.{needed}
-use Rattle.packet.specs.Table.{orderingNumber}
-use Rattle.packet.specs.declared.DeliveryGuarantee.{DeliveryGuarantee}
-use Rattle.packet.specs.declared.DeliveryGuarantee.the-variants.{Unreliable, Reliable}
-use Rattle.packet.specs.declared.OrderingGuarantee.{OrderingGuarantee}
-use Rattle.packet.specs.declared.OrderingGuarantee.the-variants.{None, Sequenced, Ordered}
-use Rattle.ordering.specs.State.{fresh as freshOrdered}
+use Rattle.packet_table.specs.Table.{orderingNumber}
+use Rattle.packet_table.specs.declared.DeliveryGuarantee.{DeliveryGuarantee}
+use Rattle.packet_table.specs.declared.DeliveryGuarantee.the-variants.{Unreliable, Reliable}
+use Rattle.packet_table.specs.declared.OrderingGuarantee.{OrderingGuarantee}
+use Rattle.packet_table.specs.declared.OrderingGuarantee.the-variants.{None, Sequenced, Ordered}
+use Rattle.ordering_plan.specs.State.{fresh as freshOrdered}
 use Rattle.sequencing.specs.Sequence.{fresh as freshSequenced}
-use Rattle.arranging.specs.Ids.{placeOf}
-use Rattle.arranging.specs.Ordered.{States, lendingAll, streamAt, stateAt, storedAt}
+use Rattle.arranging_plan.specs.Ids.{placeOf}
+use Rattle.arranging_plan.specs.Ordered.{States, lendingAll, streamAt, stateAt, storedAt}
 use Rattle.arranging.specs.Sequenced.{streamAt as sequencedAt}
 use Rattle.arranging.specs.declared.sequenced.SequencingStreams.{SequencingStreams}
-use Rattle.arranging.proofs.Parts.{block-end, part-length}
+use Rattle.arranging_plan.proofs.Parts.{block-end, part-length}
 use Rattle.arranging.proofs.Kept.{put-same}
 use Rattle.arranging_laws.specs.Sound.{Whole}
 use Rattle.arranging_laws.proofs.Stored.{Fitting, stored-whole, state-good}
@@ -35,9 +35,9 @@ use Rattle.arranging_laws.proofs.Theorems.{stays-sound}
 use Rattle.ends.specs.State.{State}
 use Rattle.sending.specs.Plan.{planOf, isListed, isLong, placeBy, isFull, flightPlace}
 use Rattle.sending.specs.Send.{sequencedAs, orderedAs, identifiedBy, recordOf, keptBy, keeping, transmittedOf}
-use Rattle.sending.specs.declared.Item.{Item}
-use Rattle.sending.specs.declared.Identifier.{Identifier}
-use Rattle.sending.specs.declared.Identifier.the-variants.{Next, Again}
+use Rattle.datagrams.specs.declared.Item.{Item}
+use Rattle.datagrams.specs.declared.Identifier.{Identifier}
+use Rattle.datagrams.specs.declared.Identifier.the-variants.{Next, Again}
 use Rattle.link_laws.proofs.Lists.{set-each, few-pieces}
 use Rattle.link_laws.proofs.Kept.{OrderedItem, KeptOrdered, SequencedItem, KeptSequenced, Kept}
 use Rattle.link_laws.proofs.Receive.{ordered-item, sequenced-item, one-of-four, ordered-ids}

@@ -14,26 +14,28 @@ use Rattle.terms.specs.declared.Gate.{Gate}
 use Rattle.terms.specs.declared.Gate.the-variants.{Open, Shut}
 use Rattle.sequence_buffer.specs.Buffer.{none, fresh}
 use Rattle.flight.specs.declared.SentPacket.{SentPacket}
-use Rattle.acknowledgment.specs.Gate.{lent, flightLent}
+use Rattle.acks.specs.Gate.{lent, flightLent}
 use Rattle.acknowledgment.specs.declared.DroppedPackets.{DroppedPackets}
 use Rattle.acknowledgment.specs.declared.DroppedPackets.the-variants.{Nothing as NoDrop, Packet as OneDrop, Refused as NotDropped}
 use Rattle.acknowledgment_laws.specs.Runs.{Typed}
 use Rattle.acknowledgment_laws.proofs.Unbroken.{good-drop}
-use Rattle.packet.specs.Numbers.{Bytes}
-use Rattle.packet.specs.declared.DeliveryGuarantee.{DeliveryGuarantee}
-use Rattle.packet.specs.declared.OrderingGuarantee.{OrderingGuarantee}
-use Rattle.reassembly.specs.Gate.{tooShort as partsTooShort}
-use Rattle.ordering.specs.State.{fresh as freshOrdered}
+use Rattle.packet_table.specs.Numbers.{Bytes}
+use Rattle.packet_table.specs.declared.DeliveryGuarantee.{DeliveryGuarantee}
+use Rattle.packet_table.specs.declared.OrderingGuarantee.{OrderingGuarantee}
+use Rattle.reassembly_plan.specs.Gate.{tooShort as partsTooShort}
+use Rattle.ordering_plan.specs.State.{fresh as freshOrdered}
 use Rattle.ordering.specs.declared.Taken.{Taken}
 use Rattle.ordering.specs.declared.Taken.the-variants.{Item, Nothing, Refused as NotTaken}
-use Rattle.arranging.specs.Ids.{placeOf}
-use Rattle.arranging.specs.Ordered.{States, nextOn, takenOn}
+use Rattle.arranging_plan.specs.Ids.{placeOf}
+use Rattle.arranging_plan.specs.Ordered.{States, nextOn, takenOn}
 use Rattle.arranging_laws.proofs.Theorems.{stays-sound}
 use Rattle.ends.specs.State.{State, lending, freshEnd}
 use Rattle.ends.specs.Gate.{isLent, gateOf}
 use Rattle.ends.proofs.Opened.{opened}
-use Rattle.sending.specs.declared.Identifier.the-variants.{Next, Again}
-use Rattle.link.specs.Calls.{newOf, filled, numberOfFresh, receiveOf, takeOf, sendOf, resendOf, itemAgain, dropOf}
+use Rattle.datagrams.specs.declared.Identifier.the-variants.{Next, Again}
+use Rattle.link_incoming.specs.Calls.{receiveOf, takeOf}
+use Rattle.link_outgoing.specs.Calls.{sendOf, resendOf, itemAgain}
+use Rattle.link.specs.Calls.{newOf, filled, numberOfFresh, dropOf}
 use Rattle.link_laws.specs.Calls.{Call, receives, takes, sends, resends, writes, drops, asks, lentTo, dropped, called, after, AllTyped, with-receives, with-takes, with-sends, with-resends, with-writes, with-drops, with-asks}
 use Rattle.link_laws.specs.Never.{New, NeverBroken}
 use Rattle.link_laws.proofs.Lists.{set-each}

@@ -5,15 +5,17 @@ use Rattle.terms.specs.declared.Sizes.{Sizes}
 use Rattle.flight.specs.declared.SentPacket.{SentPacket}
 use Rattle.acknowledgment.specs.Calls.{numberOfDropped}
 use Rattle.acknowledgment_laws.specs.Runs.{Typed}
-use Rattle.packet.specs.Numbers.{Bytes}
-use Rattle.packet.specs.declared.DeliveryGuarantee.{DeliveryGuarantee}
-use Rattle.packet.specs.declared.OrderingGuarantee.{OrderingGuarantee}
+use Rattle.packet_table.specs.Numbers.{Bytes}
+use Rattle.packet_table.specs.declared.DeliveryGuarantee.{DeliveryGuarantee}
+use Rattle.packet_table.specs.declared.OrderingGuarantee.{OrderingGuarantee}
 use Rattle.ordering.specs.Take.{numberOfTaken}
 use Rattle.ends.specs.State.{State}
-use Rattle.receiving.specs.Plan.{numberOfAnswer}
+use Rattle.receiving_plan.specs.Plan.{numberOfAnswer}
 use Rattle.sending.specs.Send.{numberOfSent}
-use Rattle.sending.specs.Further.{numberOfFurther}
-use Rattle.link.specs.Calls.{receiveOf, takeOf, sendOf, resendOf, fragmentOf, dropOf, dropNumber, reportOf, numberOfAsked}
+use Rattle.datagrams.specs.Further.{numberOfFurther}
+use Rattle.link_incoming.specs.Calls.{receiveOf, takeOf}
+use Rattle.link_outgoing.specs.Calls.{sendOf, resendOf, fragmentOf}
+use Rattle.link.specs.Calls.{dropOf, dropNumber, reportOf, numberOfAsked}
 
 -- a call of a user, with what it is given; the last is the output that it is lent, of any length
 pub data Call : Type 0 where

@@ -7,14 +7,16 @@ use Rattle.terms.specs.declared.Sizes.{Sizes}
 use Rattle.terms.specs.declared.Refusal.{Refusal}
 use Rattle.flight.specs.declared.SentPacket.{SentPacket}
 use Rattle.acknowledgment.specs.declared.DroppedPackets.the-variants.{Refused as NotDropped}
-use Rattle.packet.specs.declared.DeliveryGuarantee.{DeliveryGuarantee}
-use Rattle.packet.specs.declared.OrderingGuarantee.{OrderingGuarantee}
+use Rattle.packet_table.specs.declared.DeliveryGuarantee.{DeliveryGuarantee}
+use Rattle.packet_table.specs.declared.OrderingGuarantee.{OrderingGuarantee}
 use Rattle.ordering.specs.declared.Taken.the-variants.{Refused as NotTaken}
 use Rattle.ends.specs.State.{State}
-use Rattle.receiving.specs.declared.Answer.the-variants.{Refused as NotReceived}
+use Rattle.receiving_plan.specs.declared.Answer.the-variants.{Refused as NotReceived}
 use Rattle.sending.specs.declared.Answer.the-variants.{Refused as NotSent}
-use Rattle.sending.specs.declared.further.Further.the-variants.{Refused as NotWritten}
-use Rattle.link.specs.Calls.{newOf, filled, receiveOf, takeOf, sendOf, resendOf, fragmentOf, fragmentOutput, dropOf, dropOutput}
+use Rattle.datagrams.specs.declared.further.Further.the-variants.{Refused as NotWritten}
+use Rattle.link_incoming.specs.Calls.{receiveOf, takeOf}
+use Rattle.link_outgoing.specs.Calls.{sendOf, resendOf, fragmentOf, fragmentOutput}
+use Rattle.link.specs.Calls.{newOf, filled, dropOf, dropOutput}
 use Rattle.link.specs.declared.fresh.Fresh.the-variants.{Refused as NotMade}
 use Rattle.link_laws.specs.Calls.{dropped}
 

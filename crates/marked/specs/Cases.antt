@@ -21,14 +21,14 @@ use Rattle.splitter.specs.Split.{pieces, splitOf}
 use Rattle.splitter.specs.declared.Split.{Split}
 use Rattle.splitter.specs.declared.Split.the-variants.{Pieces, Refused as NotSplit}
 use Rattle.reassembly.specs.Effects.{State, answerOf, outputAfter}
-use Rattle.reassembly.specs.Gate.{decided, handled}
-use Rattle.reassembly.specs.declared.plan.Fragment.{Fragment}
+use Rattle.reassembly.specs.Call.{decided, handled}
+use Rattle.reassembly_plan.specs.declared.plan.Fragment.{Fragment}
 use Rattle.reassembly.specs.declared.effects.Answer.{Answer}
 use Rattle.reassembly.specs.declared.effects.Answer.the-variants.{Waiting, Whole, Refused}
-use Rattle.ordering.specs.State.{fresh as freshStream}
-use Rattle.ordering.specs.Arrange.{planOf}
-use Rattle.ordering.specs.declared.Arranged.{Arranged}
-use Rattle.ordering.specs.declared.Arranged.the-variants.{Out, Held, Old, Refused as NotArranged}
+use Rattle.ordering_plan.specs.State.{fresh as freshStream}
+use Rattle.ordering_plan.specs.Arrange.{planOf}
+use Rattle.ordering_plan.specs.declared.Arranged.{Arranged}
+use Rattle.ordering_plan.specs.declared.Arranged.the-variants.{Out, Held, Old, Refused as NotArranged}
 use Rattle.sequencing.specs.Sequence.{fresh as freshSequence, sequenceOf, topped}
 use Rattle.sequencing.specs.declared.SequencingStream.{SequencingStream}
 use Rattle.sequencing.specs.declared.Sequenced.{Sequenced}

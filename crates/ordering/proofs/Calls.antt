@@ -7,11 +7,12 @@ use borrow.Author.Tests.{le-ltb, lt-ltb}
 use Rattle.terms.specs.declared.Sizes.{Sizes}
 use Rattle.terms.specs.declared.Refusal.{Refusal}
 use Rattle.terms.specs.declared.Refusal.the-variants.{TooLong}
-use Rattle.ordering.specs.State.{State}
-use Rattle.ordering.specs.Arrange.{planOf}
+use Rattle.ordering_plan.specs.State.{State}
+use Rattle.ordering_plan.specs.Arrange.{planOf}
 use Rattle.ordering.specs.Take.{nextOf}
-use Rattle.ordering.specs.Gate.{gateOf, arrangeOf, takeOf}
-use Rattle.ordering.specs.declared.Arranged.the-variants.{Refused}
+use Rattle.ordering_plan.specs.Gate.{gateOf}
+use Rattle.ordering.specs.Calls.{arrangeOf, takeOf}
+use Rattle.ordering_plan.specs.declared.Arranged.the-variants.{Refused}
 use Rattle.ordering.specs.declared.Taken.the-variants.{Refused as NotTaken}
 use Rattle.terms.specs.declared.Gate.the-variants.{Open, Shut}
 

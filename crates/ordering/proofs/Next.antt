@@ -5,9 +5,9 @@ use native.Mathlib.Nat.{mul-le-mul-right}
 use native.Mathlib.Omega.{arith}
 use lib.ListN.{getD}
 use borrow.Author.Tests.{le-ltb, lt-ltb}
-use Rattle.ordering.specs.State.{State}
+use Rattle.ordering_plan.specs.State.{State}
 use Rattle.ordering.specs.Take.{nextPlace, nextOf}
-use Rattle.ordering.specs.Room.{Room}
+use Rattle.ordering_plan.specs.Room.{Room}
 use Rattle.ordering.specs.declared.Taken.the-variants.{Item, Nothing}
 use Rattle.ordering.proofs.Places.{place-end}
 

@@ -1,5 +1,2 @@
-pub mod State
-pub mod Arrange
 pub mod Take
-pub mod Gate
-pub mod Room
+pub mod Calls

@@ -8,8 +8,8 @@ use lib.Dec.{ltb}
 use lib.ListN.{getD, take, drop, set}
 use lib.Seq.{paste}
 use Rattle.terms.specs.Refusals.{numberOf}
-use Rattle.ordering.specs.State.{State, Leaves, written, following, placeOf}
-use Rattle.ordering.specs.declared.OrderingStream.{OrderingStream}
+use Rattle.ordering_plan.specs.State.{State, Leaves, written, following, placeOf}
+use Rattle.ordering_plan.specs.declared.OrderingStream.{OrderingStream}
 use Rattle.ordering.specs.declared.AfterTake.{AfterTake}
 use Rattle.ordering.specs.declared.Taken.{Taken}
 use Rattle.ordering.specs.declared.Taken.the-variants.{Item, Nothing, Refused}

@@ -1,35 +1,23 @@
 // One ordered stream: what comes early is held until its turn. `arrange` is given an item that has come, `take` hands out the
-// next one that is held; after each arrival a user takes until nothing comes. It leaves out who sends: that is the link.
+// next one that is held; after each arrival a user takes until nothing comes. It leaves out who sends: that is the link; and
+// what is judged before anything is written: that is `ordering_plan`, with the stream's type.
 // The counters go by value, the tables and the bytes of 64 held items are lent.
 ghost use mathlib.Core.Path.{_≡_};
-ghost use Rattle.ordering.specs.State.{lending, fresh, numbered};
-ghost use Rattle.ordering.specs.Gate.{Arranges, Takes};
+ghost use Rattle.ordering_plan.specs.State.{lending};
+ghost use Rattle.ordering.specs.Calls.{Arranges, Takes};
+use ordering_plan::gate;
+use ordering_plan::plan;
 use serial::ItemId;
 use terms::Gate;
 use terms::Refusal;
 use terms::Sizes;
 
-pub mod gate;
-pub mod plan;
+pub mod doing;
 pub mod taking;
 
-// The small counters of a stream. How it is called is told by whoever has several.
-pub struct OrderingStream {
-    pub expected_index: ItemId,
-    // The identifier of the next item sent.
-    pub next_item: ItemId,
-    // How many items wait, in the first places of the lent tables.
-    pub held: usize,
-}
-
-// What becomes of an item that has come. `plan::judge` answers it as a plan, `arrange` once it is done.
-pub enum Arranged {
-    Out,
-    // At which place.
-    Held(usize),
-    Old,
-    Refused(Refusal),
-}
+pub use ordering_plan::Arranged;
+pub use ordering_plan::NewItem;
+pub use ordering_plan::OrderingStream;
 
 // What a take found.
 pub enum Taken {
@@ -47,40 +35,6 @@ pub struct AfterArrange {
 pub struct AfterTake {
     pub answer: Taken,
     pub stream: OrderingStream,
-}
-
-pub struct NewItem {
-    pub item: ItemId,
-    pub stream: OrderingStream,
-}
-
-impl OrderingStream {
-    pub fn new() -> OrderingStream
-        ensures { λ r. ⌜ r ≡ fresh ⌝ }
-    {
-        OrderingStream {
-            expected_index: ItemId(0),
-            held: 0,
-            next_item: ItemId(0),
-        }
-    }
-
-    // The identifier of an item that is sent on this stream.
-    pub fn new_item_identifier(self) -> NewItem
-        ensures { λ r. ⌜ r ≡ numbered self ⌝ }
-    {
-        let item = self.next_item;
-        let expected_index = self.expected_index;
-        let next_item = item.successor();
-        NewItem {
-            item,
-            stream: OrderingStream {
-                expected_index,
-                held: self.held,
-                next_item,
-            },
-        }
-    }
 }
 
 // An item has come: it goes out, is held, is old or is refused.
@@ -111,10 +65,10 @@ pub fn arrange(
         };
     }
     let answer = plan::judge(stream, index, item);
-    plan::hand_out(answer, payload, output);
+    doing::hand_out(answer, payload, output);
     AfterArrange {
         answer,
-        stream: plan::perform(stream, f, index, lengths, bytes, answer, item, payload),
+        stream: doing::perform(stream, f, index, lengths, bytes, answer, item, payload),
     }
 }
 

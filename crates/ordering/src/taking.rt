@@ -3,12 +3,12 @@ ghost use mathlib.Core.Path.{_≡_};
 ghost use Prim.Native.Nat.{_+_, _≤_};
 ghost use lib.ListN.{length, drop};
 ghost use lib.Seq.{paste};
-ghost use Rattle.ordering.specs.State.{lending};
+ghost use Rattle.ordering_plan.specs.State.{lending};
 ghost use Rattle.ordering.specs.Take.{TakesNext, shrunk};
-ghost use Rattle.ordering.specs.Room.{Room};
+ghost use Rattle.ordering_plan.specs.Room.{Room};
 use crate::AfterTake;
-use crate::OrderingStream;
 use crate::Taken;
+use ordering_plan::OrderingStream;
 
 // The item goes to the output, and the last held one takes its place. For the crates above: requires a sound stream and an
 // output of F bytes.

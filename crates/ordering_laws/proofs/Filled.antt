@@ -15,11 +15,11 @@ use Rattle.serial.specs.Order.{back}
 use Rattle.terms.specs.declared.Refusal.the-variants.{Full}
 use Rattle.keys.specs.Keys.{firstPlace}
 use Rattle.keys.proofs.First.{first-le}
-use Rattle.ordering.specs.State.{placeOf}
-use Rattle.ordering.specs.Arrange.{planOf}
-use Rattle.ordering.specs.declared.OrderingStream.{OrderingStream}
-use Rattle.ordering.specs.declared.Arranged.the-variants.{Out, Held, Old, Refused}
-use Rattle.ordering.proofs.Planned.{plan-full}
+use Rattle.ordering_plan.specs.State.{placeOf}
+use Rattle.ordering_plan.specs.Arrange.{planOf}
+use Rattle.ordering_plan.specs.declared.OrderingStream.{OrderingStream}
+use Rattle.ordering_plan.specs.declared.Arranged.the-variants.{Out, Held, Old, Refused}
+use Rattle.ordering_plan.proofs.Planned.{plan-full}
 use Rattle.ordering_laws.specs.Full.{others, FullIsExact}
 
 others-le : (i : ℕ) (l : List ℕ) → others i l ≤ length l

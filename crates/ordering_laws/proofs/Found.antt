@@ -14,7 +14,7 @@ use lib.ListN.{length, getD, take}
 use lib.Seq.{length-take-le, getD-take}
 use Rattle.laws.proofs.Cases.{case, lt-or-le}
 use Rattle.keys.proofs.First.{first-at, first-min}
-use Rattle.ordering.specs.State.{State, placeOf}
+use Rattle.ordering_plan.specs.State.{State, placeOf}
 use Rattle.ordering_laws.specs.Held.{bytesAt, heldAt, Good}
 
 pub same? : (a b : ℕ) → (a ≡ b) ⊎ (a ≡ b → ⊥)

@@ -8,12 +8,12 @@ use native.Mathlib.Omega.{arith}
 use borrow.Author.Tests.{le-ltb, lt-ltb}
 use lib.ListN.{getD}
 use Rattle.laws.proofs.Cases.{lt-or-le}
-use Rattle.ordering.specs.State.{State}
-use Rattle.ordering.specs.Arrange.{arranged}
+use Rattle.ordering_plan.specs.State.{State}
+use Rattle.ordering_plan.specs.Arrange.{arranged}
 use Rattle.ordering.specs.Take.{nextPlace, nextOf, takenOut}
-use Rattle.ordering.specs.declared.Arranged.the-variants.{Out}
+use Rattle.ordering_plan.specs.declared.Arranged.the-variants.{Out}
 use Rattle.ordering.specs.declared.Taken.the-variants.{Item, Nothing}
-use Rattle.ordering.proofs.Planned.{held-place}
+use Rattle.ordering_plan.proofs.Planned.{held-place}
 use Rattle.ordering.proofs.Next.{next-none, next-item}
 use Rattle.ordering_laws.specs.Held.{heldAt, Good, HeldIsAMap}
 use Rattle.ordering_laws.proofs.Put.{put-found, put-other}

@@ -12,11 +12,11 @@ use lib.Dec.{eqb}
 use lib.ListN.{length, getD, length-set}
 use lib.Seq.{take-length, length-paste, getD-set-same, getD-set-other}
 use Rattle.laws.proofs.Paste.{part-same, part-other, places-apart}
-use Rattle.ordering.specs.State.{State, placeOf}
-use Rattle.ordering.specs.Arrange.{arranged}
-use Rattle.ordering.specs.declared.Arranged.the-variants.{Held}
+use Rattle.ordering_plan.specs.State.{State, placeOf}
+use Rattle.ordering_plan.specs.Arrange.{arranged}
+use Rattle.ordering_plan.specs.declared.Arranged.the-variants.{Held}
 use Rattle.ordering.proofs.Places.{place-end}
-use Rattle.ordering.proofs.Planned.{place-le}
+use Rattle.ordering_plan.proofs.Planned.{place-le}
 use Rattle.ordering_laws.specs.Held.{heldAt, Good}
 use Rattle.ordering_laws.proofs.Found.{same?, place-at, place-of, at-found, same-held}
 

@@ -12,7 +12,7 @@ use lib.Dec.{eqb}
 use lib.ListN.{length, getD, drop, set, length-set, length-drop}
 use lib.Seq.{length-paste, getD-set-same, getD-set-other}
 use Rattle.laws.proofs.Paste.{part-same, part-other, places-apart}
-use Rattle.ordering.specs.State.{State}
+use Rattle.ordering_plan.specs.State.{State}
 use Rattle.ordering.specs.Take.{nextPlace, lastPlace, taken}
 use Rattle.ordering.specs.declared.Taken.the-variants.{Item}
 use Rattle.ordering.proofs.Places.{place-end}

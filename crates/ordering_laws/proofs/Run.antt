@@ -13,15 +13,16 @@ use Rattle.laws.proofs.Cases.{lt-or-le}
 use Rattle.serial.specs.Order.{back}
 use Rattle.terms.specs.declared.Sizes.{Sizes}
 use Rattle.terms.specs.declared.Refusal.{Refusal}
-use Rattle.ordering.specs.State.{State, lending, fresh, written, placeOf}
-use Rattle.ordering.specs.Arrange.{planOf, handedOut, arranged}
+use Rattle.ordering_plan.specs.State.{State, lending, fresh, written, placeOf}
+use Rattle.ordering_plan.specs.Arrange.{planOf, handedOut, arranged}
 use Rattle.ordering.specs.Take.{nextPlace, nextOf, takenOut, taken}
-use Rattle.ordering.specs.Gate.{gateOf, takeOf}
+use Rattle.ordering_plan.specs.Gate.{gateOf}
+use Rattle.ordering.specs.Calls.{takeOf}
 use Rattle.terms.specs.declared.Gate.the-variants.{Open}
-use Rattle.ordering.specs.declared.Arranged.the-variants.{Out, Held, Old}
+use Rattle.ordering_plan.specs.declared.Arranged.the-variants.{Out, Held, Old}
 use Rattle.ordering.specs.declared.Taken.{Taken}
 use Rattle.ordering.specs.declared.Taken.the-variants.{Item, Nothing, Refused as NotTaken}
-use Rattle.ordering.proofs.Planned.{plan-out, plan-old, plan-full, plan-held, place-le}
+use Rattle.ordering_plan.proofs.Planned.{plan-out, plan-old, plan-full, plan-held, place-le}
 use Rattle.ordering.proofs.Next.{next-none, next-item}
 use Rattle.ordering.proofs.Calls.{arrange-open, take-open}
 use Rattle.ordering_laws.specs.Held.{heldAt, Good}

@@ -16,19 +16,20 @@ use Rattle.terms.specs.Sizes.{inRange}
 use Rattle.terms.specs.declared.Sizes.{Sizes}
 use Rattle.keys.specs.Keys.{twice}
 use Rattle.keys.proofs.Twice.{exact, all-apart}
-use Rattle.ordering.specs.State.{State, lending, fresh, written, numbered}
-use Rattle.ordering.specs.Arrange.{planOf, handedOut, arranged}
+use Rattle.ordering_plan.specs.State.{State, lending, fresh, written, numbered}
+use Rattle.ordering_plan.specs.Arrange.{planOf, handedOut, arranged}
 use Rattle.ordering.specs.Take.{nextPlace, nextOf, takenOut, taken}
-use Rattle.ordering.specs.Room.{Room}
-use Rattle.ordering.specs.Gate.{allFit, sound, gateOf, arrangeOf, takeOf}
-use Rattle.ordering.specs.declared.Arranged.{Arranged}
-use Rattle.ordering.specs.declared.Arranged.the-variants.{Out, Held, Old, Refused}
+use Rattle.ordering_plan.specs.Room.{Room}
+use Rattle.ordering_plan.specs.Gate.{allFit, sound, gateOf}
+use Rattle.ordering.specs.Calls.{arrangeOf, takeOf}
+use Rattle.ordering_plan.specs.declared.Arranged.{Arranged}
+use Rattle.ordering_plan.specs.declared.Arranged.the-variants.{Out, Held, Old, Refused}
 use Rattle.ordering.specs.declared.Taken.{Taken}
 use Rattle.ordering.specs.declared.Taken.the-variants.{Item, Nothing, Refused as NotTaken}
 use Rattle.terms.specs.declared.Gate.the-variants.{Open}
-use Rattle.ordering.proofs.Fits.{at-fits}
-use Rattle.ordering.proofs.Gates.{opened, size-high, sound-once, long-enough, gate-open}
-use Rattle.ordering.proofs.Planned.{held-place}
+use Rattle.ordering_plan.proofs.Fits.{at-fits}
+use Rattle.ordering_plan.proofs.Gates.{opened, size-high, sound-once, long-enough, gate-open}
+use Rattle.ordering_plan.proofs.Planned.{held-place}
 use Rattle.ordering.proofs.Calls.{arrange-long, arrange-open, take-open}
 use Rattle.ordering_laws.specs.Held.{Good}
 use Rattle.ordering_laws.specs.Sound.{StaysSound}

@@ -9,9 +9,9 @@ use lib.Dec.{eqb}
 use lib.ListN.{length, take}
 use Rattle.serial.specs.Order.{back}
 use Rattle.terms.specs.declared.Refusal.the-variants.{Full}
-use Rattle.ordering.specs.Arrange.{planOf}
-use Rattle.ordering.specs.declared.OrderingStream.{OrderingStream}
-use Rattle.ordering.specs.declared.Arranged.the-variants.{Refused}
+use Rattle.ordering_plan.specs.Arrange.{planOf}
+use Rattle.ordering_plan.specs.declared.OrderingStream.{OrderingStream}
+use Rattle.ordering_plan.specs.declared.Arranged.the-variants.{Refused}
 
 -- how many of these are another index than i
 unfoldable pub others : ℕ → List ℕ → ℕ

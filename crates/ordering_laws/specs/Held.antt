@@ -7,11 +7,11 @@ use mathlib.Core.List.{List}
 use mathlib.Core.Option.{Option, none, some}
 use lib.Dec.{ltb}
 use lib.ListN.{length, getD, take, drop}
-use Rattle.ordering.specs.State.{State, placeOf}
-use Rattle.ordering.specs.Arrange.{planOf, arranged}
+use Rattle.ordering_plan.specs.State.{State, placeOf}
+use Rattle.ordering_plan.specs.Arrange.{planOf, arranged}
 use Rattle.ordering.specs.Take.{nextOf, takenOut, taken}
-use Rattle.ordering.specs.Room.{Room}
-use Rattle.ordering.specs.declared.Arranged.the-variants.{Out, Held}
+use Rattle.ordering_plan.specs.Room.{Room}
+use Rattle.ordering_plan.specs.declared.Arranged.the-variants.{Out, Held}
 use Rattle.ordering.specs.declared.Taken.the-variants.{Item, Nothing}
 
 -- the bytes of the item at place k; f is F

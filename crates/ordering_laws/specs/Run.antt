@@ -6,10 +6,11 @@ use mathlib.Core.List.{List, [], _∷_}
 use mathlib.Core.Option.{Option, none, some}
 use lib.ListN.{length}
 use Rattle.terms.specs.declared.Sizes.{Sizes}
-use Rattle.ordering.specs.State.{State, lending, fresh, written}
-use Rattle.ordering.specs.Arrange.{handedOut}
+use Rattle.ordering_plan.specs.State.{State, lending, fresh, written}
+use Rattle.ordering_plan.specs.Arrange.{handedOut}
 use Rattle.ordering.specs.Take.{takenOut}
-use Rattle.ordering.specs.Gate.{gateOf, arrangeOf, takeOf}
+use Rattle.ordering_plan.specs.Gate.{gateOf}
+use Rattle.ordering.specs.Calls.{arrangeOf, takeOf}
 use Rattle.terms.specs.declared.Gate.the-variants.{Open}
 use Rattle.ordering.specs.declared.Taken.{Taken}
 use Rattle.ordering.specs.declared.Taken.the-variants.{Item, Nothing, Refused}

@@ -6,10 +6,11 @@ use mathlib.Core.List.{List}
 use lib.ListN.{length}
 use Rattle.terms.specs.Sizes.{inRange}
 use Rattle.terms.specs.declared.Sizes.{Sizes}
-use Rattle.ordering.specs.State.{State, lending, fresh, written, numbered}
-use Rattle.ordering.specs.Arrange.{handedOut, arranged}
+use Rattle.ordering_plan.specs.State.{State, lending, fresh, written, numbered}
+use Rattle.ordering_plan.specs.Arrange.{handedOut, arranged}
 use Rattle.ordering.specs.Take.{takenOut, taken}
-use Rattle.ordering.specs.Gate.{gateOf, arrangeOf, takeOf}
+use Rattle.ordering_plan.specs.Gate.{gateOf}
+use Rattle.ordering.specs.Calls.{arrangeOf, takeOf}
 use Rattle.terms.specs.declared.Gate.the-variants.{Open}
 
 -- after a call: the state that it leaves, and the output

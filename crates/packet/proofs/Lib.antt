@@ -1,10 +1,2 @@
-pub mod Width
-pub mod Output
-pub mod Rule
 pub mod Stages
-pub mod Lengths
 pub mod Whole
-pub mod Parsed
-pub mod Reprinted
-pub mod Laws
-pub mod Theorems

@@ -10,17 +10,17 @@ use lib.Dec.{leb}
 use borrow.Author.Tests.{leb-true, leb-false, lt-ltb, le-ltb}
 use Rattle.laws.proofs.Cases.{case}
 use Rattle.terms.specs.declared.Refusal.the-variants.{CouldNotReadHeader}
-use Rattle.packet.specs.declared.StandardHeader.{StandardHeader}
-use Rattle.packet.specs.declared.FragmentHeader.{FragmentHeader}
-use Rattle.packet.specs.declared.AckedPacketHeader.{AckedPacketHeader}
-use Rattle.packet.specs.declared.ArrangingHeader.{ArrangingHeader}
-use Rattle.packet.specs.declared.table.Following.{Following}
+use Rattle.packet_table.specs.declared.StandardHeader.{StandardHeader}
+use Rattle.packet_table.specs.declared.FragmentHeader.{FragmentHeader}
+use Rattle.packet_table.specs.declared.AckedPacketHeader.{AckedPacketHeader}
+use Rattle.packet_table.specs.declared.ArrangingHeader.{ArrangingHeader}
+use Rattle.packet_table.specs.declared.table.Following.{Following}
 use Rattle.packet.specs.declared.reader.Cursor.{Cursor}
 use Rattle.packet.specs.declared.reader.Next.{Next}
 use Rattle.packet.specs.declared.reader.Next.the-variants.{At, Cut}
 use Rattle.packet.specs.declared.Read.the-variants.{Found, Refused}
-use Rattle.packet.specs.Table.{hasFragment, hasAcked, hasArranging}
-use Rattle.packet.specs.Layout.{sizeOf, ackedAt, arrangingAt, payloadAt}
+use Rattle.packet_table.specs.Table.{hasFragment, hasAcked, hasArranging}
+use Rattle.packet_table.specs.Layout.{sizeOf, ackedAt, arrangingAt, payloadAt}
 use Rattle.packet.specs.Read.{pastOf, fragmentOf, ackedOf, arrangingOf, headersOf, followingRead}
 
 module _ (len at n : ℕ) where

@@ -4,12 +4,12 @@ use mathlib.Core.List.{List, _++_}
 use Prim.Native.Nat.{ℕ, _+_, _≤_}
 use native.Mathlib.Omega.{arith}
 use lib.ListN.{length, drop}
-use Rattle.packet.specs.declared.Headers.{Headers}
-use Rattle.packet.specs.Table.{follows}
-use Rattle.packet.specs.Layout.{standardBytes, followingBytes, payloadAt, datagram}
-use Rattle.packet.specs.Build.{written}
-use Rattle.packet.proofs.Lengths.{standard-length, following-length, datagram-length}
-use Rattle.packet.proofs.Output.{three, at-start}
+use Rattle.packet_table.specs.declared.Headers.{Headers}
+use Rattle.packet_table.specs.Table.{follows}
+use Rattle.packet_table.specs.Layout.{standardBytes, followingBytes, payloadAt, datagram}
+use Rattle.packet_table.specs.Numbers.{written}
+use Rattle.packet_table.proofs.Lengths.{standard-length, following-length, datagram-length}
+use Rattle.packet_table.proofs.Output.{three, at-start}
 
 module _ (v : ℕ) (h : Headers) (p o : List ℕ) where
   pub whole : payloadAt (follows (h .standard)) (h .fragment .id) + length p ≤ length o

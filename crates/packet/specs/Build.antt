@@ -3,17 +3,16 @@ use Prim.Native.Nat.{ℕ, _+_}
 use mathlib.Core.Path.{_≡_}
 use mathlib.Core.Bool.{cond}
 use mathlib.Core.List.{List, _++_}
-use lib.ListN.{length, take, drop}
+use lib.ListN.{length, drop}
 use lib.Dec.{ltb}
 use Rattle.terms.specs.declared.Refusal.the-variants.{BadStorage, BadHeader}
 use Rattle.terms.specs.Refusals.{numberOf}
-use Rattle.packet.specs.declared.Headers.{Headers}
-use Rattle.packet.specs.declared.table.Following.{Following}
+use Rattle.packet_table.specs.declared.Headers.{Headers}
+use Rattle.packet_table.specs.declared.table.Following.{Following}
 use Rattle.packet.specs.declared.Built.{Built}
 use Rattle.packet.specs.declared.Built.the-variants.{Datagram, Refused}
-use Rattle.packet.specs.Table.{follows}
-use Rattle.packet.specs.Layout.{payloadAt, datagram}
-use Rattle.packet.specs.Read.{misfit}
+use Rattle.packet_table.specs.Table.{follows, misfit}
+use Rattle.packet_table.specs.Layout.{payloadAt, datagram}
 
 -- 4 first: a combination that is not listed has no length that 2 could be judged by
 unfoldable pub buildOf : Headers → List ℕ → List ℕ → Built
@@ -47,7 +46,3 @@ over d output = d ++ drop (length d) output
 pub record Writes (d output : List ℕ) (count : ℕ) (after : List ℕ) : Type 0 where
   pub length-is : count ≡ length d
   pub output-is : after ≡ over d output
-
--- the output with these bytes at a place
-unfoldable pub written : ℕ → List ℕ → List ℕ → List ℕ
-written at b output = take at output ++ (b ++ drop (at + length b) output)

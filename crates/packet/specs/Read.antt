@@ -1,24 +1,24 @@
 -- What a datagram reads as.
 use Prim.Native.Nat.{ℕ, _+_, _-_}
-use mathlib.Core.Bool.{Bool, true, false, not, cond, _&&_, _||_}
+use mathlib.Core.Bool.{Bool, true, false, not, cond, _||_}
 use mathlib.Core.List.{List}
 use lib.ListN.{length}
 use lib.Dec.{ltb, leb, eqb}
 use Rattle.terms.specs.declared.Refusal.the-variants.{CouldNotReadHeader, BadHeader}
 use Rattle.terms.specs.Refusals.{numberOf}
-use Rattle.packet.specs.declared.StandardHeader.{StandardHeader}
-use Rattle.packet.specs.declared.FragmentHeader.{FragmentHeader}
-use Rattle.packet.specs.declared.AckedPacketHeader.{AckedPacketHeader}
-use Rattle.packet.specs.declared.ArrangingHeader.{ArrangingHeader}
-use Rattle.packet.specs.declared.Headers.{Headers}
-use Rattle.packet.specs.declared.table.Following.{Following}
+use Rattle.packet_table.specs.declared.StandardHeader.{StandardHeader}
+use Rattle.packet_table.specs.declared.FragmentHeader.{FragmentHeader}
+use Rattle.packet_table.specs.declared.AckedPacketHeader.{AckedPacketHeader}
+use Rattle.packet_table.specs.declared.ArrangingHeader.{ArrangingHeader}
+use Rattle.packet_table.specs.declared.Headers.{Headers}
+use Rattle.packet_table.specs.declared.table.Following.{Following}
 use Rattle.packet.specs.declared.reader.Next.{Next}
 use Rattle.packet.specs.declared.reader.Next.the-variants.{At, Cut}
 use Rattle.packet.specs.declared.Read.{Read}
 use Rattle.packet.specs.declared.Read.the-variants.{Found, Refused}
-use Rattle.packet.specs.Numbers.{numberAt}
-use Rattle.packet.specs.Table.{typeOf, deliveryOf, orderingOf, follows, listed, hasFragment, hasAcked, hasArranging, isHeartbeat}
-use Rattle.packet.specs.Layout.{ackedAt, arrangingAt, payloadAt}
+use Rattle.packet_table.specs.Numbers.{numberAt}
+use Rattle.packet_table.specs.Table.{typeOf, deliveryOf, orderingOf, follows, hasFragment, hasAcked, hasArranging, misfit}
+use Rattle.packet_table.specs.Layout.{ackedAt, arrangingAt, payloadAt}
 
 abbrev pub standardOf : List ℕ → StandardHeader
 standardOf d = record { «packet_type» = typeOf (numberAt 1 d 2); delivery = deliveryOf (numberAt 1 d 3); ordering = orderingOf (numberAt 1 d 4) }
@@ -64,10 +64,6 @@ followingRead s f d =
 -- "V differs, a type, delivery or ordering byte is unknown"
 unfoldable pub unknown : ℕ → List ℕ → Bool
 unknown v d = not (eqb (numberAt 2 d 0) v) || (leb 3 (numberAt 1 d 2) || (leb 2 (numberAt 1 d 3) || leb 3 (numberAt 1 d 4)))
-
--- "the combination isn't listed, or a heartbeat isn't 5 bytes"; `more` is how many bytes come after the standard header
-unfoldable pub misfit : StandardHeader → Following → ℕ → Bool
-misfit s f more = not (listed f) || (isHeartbeat (s .«packet_type») && ltb 0 more)
 
 -- "3 for the standard header, 4, 3 for the others"
 unfoldable pub readOf : ℕ → List ℕ → Read

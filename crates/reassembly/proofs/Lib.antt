@@ -1,4 +1,2 @@
-pub mod Below
-pub mod Sound
 pub mod Planned
 pub mod Passing

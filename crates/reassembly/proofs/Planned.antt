@@ -9,14 +9,14 @@ use borrow.Author.Tests.{eqb-true, leb-false}
 use Rattle.laws.specs.Bits.{bit}
 use Rattle.laws.proofs.Cases.{case}
 use Rattle.terms.specs.declared.Refusal.{Refusal}
-use Rattle.reassembly.specs.Plan.{slotOf, known, found, grown, placeOf, judged, passed, planOf}
+use Rattle.reassembly_plan.specs.Plan.{slotOf, known, found, grown, placeOf, judged, passed, planOf}
 use Rattle.reassembly.specs.Effects.{lengthOf}
-use Rattle.reassembly.specs.Room.{Growing}
-use Rattle.reassembly.specs.declared.words.Entry.{Entry}
-use Rattle.reassembly.specs.declared.plan.Fragment.{Fragment}
-use Rattle.reassembly.specs.declared.plan.Joining.{Joining}
-use Rattle.reassembly.specs.declared.plan.Plan.the-variants.{Refuse, Make, Join}
-use Rattle.reassembly.proofs.Sound.{found-sound, grown-sound, below-most, at-most}
+use Rattle.reassembly_plan.specs.Table.{Growing}
+use Rattle.reassembly_plan.specs.declared.words.Entry.{Entry}
+use Rattle.reassembly_plan.specs.declared.plan.Fragment.{Fragment}
+use Rattle.reassembly_plan.specs.declared.plan.Joining.{Joining}
+use Rattle.reassembly_plan.specs.declared.plan.Plan.the-variants.{Refuse, Make, Join}
+use Rattle.reassembly_plan.proofs.Sound.{found-sound, grown-sound, below-most, at-most}
 
 -- the fragment joins an entry
 pub record Joins (there : Bool) (e : Entry) (g : Fragment) (len : ℕ) (j : Joining) : Type 0 where

@@ -11,12 +11,12 @@ use Rattle.laws.specs.Bits.{bit}
 use Rattle.sequence_buffer.specs.Buffer.{insertedNum, insertedSlots, removedSlots}
 use Rattle.terms.specs.Refusals.{numberOf}
 use Rattle.terms.specs.declared.Refusal.the-variants.{ExceededMaxFragments, MissingAckHeader}
-use Rattle.reassembly.specs.Words.{entryWord, headerOf, headerWord}
-use Rattle.reassembly.specs.Plan.{slotOf, opened}
-use Rattle.reassembly.specs.declared.words.Entry.{Entry}
-use Rattle.reassembly.specs.declared.plan.Fragment.{Fragment}
-use Rattle.reassembly.specs.declared.plan.Plan.{Plan}
-use Rattle.reassembly.specs.declared.plan.Plan.the-variants.{Refuse, Make, Join}
+use Rattle.reassembly_plan.specs.Words.{entryWord, headerOf, headerWord}
+use Rattle.reassembly_plan.specs.Plan.{slotOf, opened}
+use Rattle.reassembly_plan.specs.declared.words.Entry.{Entry}
+use Rattle.reassembly_plan.specs.declared.plan.Fragment.{Fragment}
+use Rattle.reassembly_plan.specs.declared.plan.Plan.{Plan}
+use Rattle.reassembly_plan.specs.declared.plan.Plan.the-variants.{Refuse, Make, Join}
 use Rattle.reassembly.specs.declared.effects.Answer.{Answer}
 use Rattle.reassembly.specs.declared.effects.Answer.the-variants.{Waiting, Whole, Refused}
 use Rattle.reassembly.specs.declared.effects.Handled.{Handled}

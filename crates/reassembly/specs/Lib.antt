@@ -1,5 +1,3 @@
-pub mod Words
-pub mod Plan
 pub mod Effects
-pub mod Gate
 pub mod Room
+pub mod Call

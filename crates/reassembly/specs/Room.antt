@@ -1,25 +1,16 @@
 -- What the calls for the crates above require.
 use Prim.Native.Nat.{ℕ, _+_, _*_, _≤_}
-use mathlib.Core.Bool.{true}
 use mathlib.Core.List.{List}
 use mathlib.Core.Path.{_≡_}
 use lib.ListN.{length}
 use Rattle.reassembly.specs.Effects.{State, lengthOf}
-use Rattle.reassembly.specs.Gate.{sound}
-use Rattle.reassembly.specs.declared.plan.Joining.{Joining}
-use Rattle.reassembly.specs.declared.plan.Plan.{Plan}
-use Rattle.reassembly.specs.declared.plan.Plan.the-variants.{Join}
+use Rattle.reassembly_plan.specs.Table.{Growing}
+use Rattle.reassembly_plan.specs.declared.plan.Joining.{Joining}
+use Rattle.reassembly_plan.specs.declared.plan.Plan.{Plan}
+use Rattle.reassembly_plan.specs.declared.plan.Plan.the-variants.{Join}
 
 abbrev pub lending : ℕ → List ℕ → List ℕ → List ℕ → List ℕ → State
 lending num slots entry header bytes = record { num = num; slots = slots; entry = entry; header = header; bytes = bytes }
-
--- a sound table, of as many slots as the list has
-pub record Growing (f : ℕ) (slots entry : List ℕ) : Type 0 where
-  pub f-most : f ≤ 1024
-  pub some : 1 ≤ length slots
-  pub most : length slots ≤ 64
-  pub beside : length slots ≤ length entry
-  pub is-sound : sound f slots entry ≡ true
 
 -- a table, and room for its bytes and for a message
 pub record Room (f : ℕ) (s : State) (output : List ℕ) : Type 0 where

@@ -4,13 +4,13 @@ ghost use mathlib.Core.Bool.{cond};
 ghost use Prim.Native.Nat.{_≤_, _<_, _+_};
 ghost use lib.ListN.{length};
 ghost use Rattle.sequence_buffer.specs.Buffer.{insertedNum, insertedSlots, removedSlots};
-ghost use Rattle.reassembly.specs.Plan.{planOf};
+ghost use Rattle.reassembly_plan.specs.Plan.{planOf};
 ghost use Rattle.reassembly.specs.Effects.{handsOut, numAfter, slotsAfter, entryAfter, headerAfter, bytesAfter, outputAfter, lengthOf, joinedAnswer, answerOf, Performs};
 ghost use Rattle.reassembly.specs.Room.{lending, Room, Joins, Hands};
-use crate::plan::Fragment;
-use crate::plan::Plan;
-use crate::words::AckHeader;
-use crate::words::Entry;
+use reassembly_plan::plan::Fragment;
+use reassembly_plan::plan::Plan;
+use reassembly_plan::words::AckHeader;
+use reassembly_plan::words::Entry;
 use serial::PacketNumber;
 use terms::Refusal;
 

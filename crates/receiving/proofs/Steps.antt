@@ -9,19 +9,19 @@ use Rattle.terms.specs.declared.Sizes.{Sizes}
 use Rattle.terms.specs.declared.Refusal.{Refusal}
 use Rattle.terms.specs.declared.Refusal.the-variants.{TooLong}
 use Rattle.packet.specs.Read.{readOf}
-use Rattle.packet.specs.declared.Headers.{Headers}
-use Rattle.packet.specs.declared.PacketType.the-variants.{Packet, Fragment, Heartbeat as IsHeartbeat}
+use Rattle.packet_table.specs.declared.Headers.{Headers}
+use Rattle.packet_table.specs.declared.PacketType.the-variants.{Packet, Fragment, Heartbeat as IsHeartbeat}
 use Rattle.packet.specs.declared.Read.{Read}
 use Rattle.packet.specs.declared.Read.the-variants.{Found, Refused as Unread}
 use Rattle.ends.specs.State.{State, lending}
 use Rattle.ends.specs.declared.End.{End}
-use Rattle.receiving.specs.Packets.{Accepts}
-use Rattle.receiving.specs.Fragments.{Joins, withPart}
-use Rattle.receiving.specs.Receive.{Step, refused, refusalOf, packetOf, fragmentOf, receivedOf, Receives}
-use Rattle.receiving.specs.declared.Received.{Received}
-use Rattle.receiving.specs.declared.fragments.Joined.{Joined}
-use Rattle.receiving.specs.declared.Answer.{Answer}
-use Rattle.receiving.specs.declared.Answer.the-variants.{Heartbeat}
+use Rattle.receiving_packets.specs.Packets.{Accepts}
+use Rattle.receiving_fragments.specs.Fragments.{Joins}
+use Rattle.receiving.specs.Receive.{Step, refused, refusalOf, packetOf, fragmentOf, withPart, receivedOf, Receives}
+use Rattle.receiving_packets.specs.declared.Received.{Received}
+use Rattle.receiving_fragments.specs.declared.Joined.{Joined}
+use Rattle.receiving_plan.specs.declared.Answer.{Answer}
+use Rattle.receiving_plan.specs.declared.Answer.the-variants.{Heartbeat}
 
 module _ (z : Sizes) (s : State) (d output : List ℕ) where
   pub on-unread : (why : Refusal) → readOf (z .version) d ≡ Unread why → receivedOf z s d output ≡ refused why s output

@@ -1,4 +1,1 @@
-pub mod Plan
-pub mod Packets
-pub mod Fragments
 pub mod Receive

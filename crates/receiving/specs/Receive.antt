@@ -10,20 +10,23 @@ use Rattle.terms.specs.declared.Sizes.{Sizes}
 use Rattle.terms.specs.declared.Refusal.{Refusal}
 use Rattle.terms.specs.declared.Refusal.the-variants.{BadHeader, TooLong}
 use Rattle.packet.specs.Read.{readOf}
-use Rattle.packet.specs.declared.Headers.{Headers}
-use Rattle.packet.specs.declared.PacketType.{PacketType}
-use Rattle.packet.specs.declared.PacketType.the-variants.{Packet, Fragment, Heartbeat as IsHeartbeat}
+use Rattle.packet_table.specs.declared.Headers.{Headers}
+use Rattle.packet_table.specs.declared.PacketType.{PacketType}
+use Rattle.packet_table.specs.declared.PacketType.the-variants.{Packet, Fragment, Heartbeat as IsHeartbeat}
 use Rattle.packet.specs.declared.Read.{Read}
 use Rattle.packet.specs.declared.Read.the-variants.{Found, Refused as Unread}
-use Rattle.acknowledgment.specs.State.{State as Acks}
+use Rattle.acks.specs.State.{State as Acks}
 use Rattle.ends.specs.State.{State, Leaves}
-use Rattle.receiving.specs.Plan.{planOf, told, itemOf}
-use Rattle.receiving.specs.Packets.{Heard, acksAfter, sequencedBy, orderedBy, handed}
-use Rattle.receiving.specs.Fragments.{partsAfter, partAnswer, partOutput, acksAtWhole, toldPart}
-use Rattle.receiving.specs.declared.plan.Plan.{Plan}
-use Rattle.receiving.specs.declared.Received.{Received}
-use Rattle.receiving.specs.declared.Answer.{Answer}
-use Rattle.receiving.specs.declared.Answer.the-variants.{Heartbeat, Refused}
+use Rattle.ends.specs.declared.End.{End}
+use Rattle.receiving_plan.specs.Plan.{planOf, told, itemOf}
+use Rattle.receiving_plan.specs.Heard.{Heard}
+use Rattle.receiving_packets.specs.Packets.{acksAfter, sequencedBy, orderedBy, handed}
+use Rattle.receiving_fragments.specs.Fragments.{partsAfter, partAnswer, partOutput, acksAtWhole, toldPart}
+use Rattle.receiving_plan.specs.declared.Plan.{Plan}
+use Rattle.receiving_packets.specs.declared.Received.{Received}
+use Rattle.receiving_fragments.specs.declared.Joined.{Joined}
+use Rattle.receiving_plan.specs.declared.Answer.{Answer}
+use Rattle.receiving_plan.specs.declared.Answer.the-variants.{Heartbeat, Refused}
 
 -- what a call answers, and what it leaves of the end and of the output
 pub record Step : Type 0 where
@@ -72,6 +75,14 @@ fragmentOf z h payload s output =
         sequenced = s .sequenced;
       };
       output = partOutput z h payload (s .parts) output;
+    }
+
+-- the end with what a fragment has changed of it
+abbrev pub withPart : End → Joined → Received
+withPart end p =
+    record {
+      end = record { acks = p .acks; reassembly = p .reassembly; ordering = end .ordering; sequencing = end .sequencing };
+      answer = p .answer;
     }
 
 -- "A heartbeat changes nothing."

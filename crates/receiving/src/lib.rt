@@ -1,55 +1,24 @@
-// A datagram has come: what it makes of one end, once 1, 2 and 13 are answered. Read `receive` first. A packet and a fragment
-// have a file each, and both judge everything before they write anything. It leaves out taking items of an ordered stream,
-// which is `arranging`, and the users' call with its gate, which is `link`.
+// A datagram has come: what it makes of one end, once 1, 2 and 13 are answered. Read `receive` first. It leaves out a packet
+// and a fragment, which are `receiving_packets` and `receiving_fragments` and judge everything before they write anything;
+// taking items of an ordered stream, which is `arranging`; and the users' call with its gate, which is `link`.
 ghost use mathlib.Core.Path.{_≡_};
 ghost use Rattle.terms.specs.declared.Gate.the-variants.{Open};
-ghost use Rattle.flight.specs.AtHome.{KnownHome};
-ghost use Rattle.acknowledgment.specs.State.{tableOf};
+ghost use Rattle.flight_home.specs.AtHome.{KnownHome};
+ghost use Rattle.acks.specs.State.{tableOf};
 ghost use Rattle.ends.specs.State.{lending};
 ghost use Rattle.ends.specs.Gate.{gateOf};
-ghost use Rattle.receiving.specs.declared.Answer.the-variants.{Heartbeat, Refused};
-ghost use Rattle.receiving.specs.Fragments.{withPart};
-ghost use Rattle.receiving.specs.Receive.{refusalOf, receivedOf, Receives};
-use crate::fragments::Joined;
+ghost use Rattle.receiving_plan.specs.declared.Answer.the-variants.{Heartbeat};
+ghost use Rattle.receiving.specs.Receive.{refusalOf, withPart, receivedOf, Receives};
 use ends::End;
-use packet::DeliveryGuarantee;
-use packet::OrderingGuarantee;
 use packet::PacketType;
 use packet::Read;
+use receiving_fragments::Joined;
+pub use receiving_packets::Received;
+pub use receiving_packets::refused;
+pub use receiving_plan::Answer;
+pub use receiving_plan::Item;
 use terms::Refusal;
 use terms::Sizes;
-
-pub mod fragments;
-pub mod packets;
-pub mod plan;
-
-// An item that is handed out: so many bytes at the start of the output, and how it was sent. `stream` is that of an ordered or
-// sequenced item.
-pub struct Item {
-    pub delivery: DeliveryGuarantee,
-    pub ordering: OrderingGuarantee,
-    pub stream: u8,
-    pub length: usize,
-}
-
-pub enum Answer {
-    Out(Item),
-    // An ordered item waits for one before it.
-    Held,
-    // An ordered item came before.
-    Old,
-    // A newer item came on the sequenced stream.
-    Dropped,
-    // A fragment has joined its message, and more are to come.
-    Waiting,
-    Heartbeat,
-    Refused(Refusal),
-}
-
-pub struct Received {
-    pub end: End,
-    pub answer: Answer,
-}
 
 // A datagram has come. For the crates above: requires an end that the gate lets through, with packets in
 // flight at home where they are said to be.
@@ -86,7 +55,7 @@ pub fn receive(
     let standard = headers.standard;
     let packet_type = standard.packet_type;
     match packet_type {
-        PacketType::Packet => packets::accept(
+        PacketType::Packet => receiving_packets::accept(
             sizes,
             end,
             received,
@@ -100,7 +69,7 @@ pub fn receive(
             home,
         ),
         PacketType::Fragment => {
-            let part = fragments::join(
+            let part = receiving_fragments::join(
                 sizes,
                 end.acks,
                 end.reassembly,
@@ -147,15 +116,6 @@ fn heartbeat(end: End) -> Received
     Received {
         end,
         answer: Answer::Heartbeat,
-    }
-}
-
-pub fn refused(end: End, why: Refusal) -> Received
-    ensures { λ r. ⌜ r ≡ record { end = end; answer = Refused why } ⌝ }
-{
-    Received {
-        end,
-        answer: Answer::Refused(why),
     }
 }
 

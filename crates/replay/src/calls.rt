@@ -3,6 +3,7 @@
 use crate::tables;
 use crate::tables::Tables;
 use acknowledgment::DroppedPackets;
+use datagrams::further::Further;
 use ends::End;
 use flight::SentPacket;
 use link::fresh::Fresh;
@@ -10,7 +11,6 @@ use link::status::Asked;
 use ordering::Taken;
 use packet::DeliveryGuarantee;
 use packet::OrderingGuarantee;
-use sending::further::Further;
 use serial::PacketNumber;
 use terms::Sizes;
 

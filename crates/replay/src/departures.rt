@@ -2,6 +2,7 @@
 use crate::calls;
 use crate::calls::Connection;
 use crate::log;
+use datagrams::further::Further;
 use packet::AckedPacketHeader;
 use packet::ArrangingHeader;
 use packet::Built;
@@ -14,7 +15,6 @@ use packet::StandardHeader;
 use packet::table;
 use script::print;
 use sending::Answer;
-use sending::further::Further;
 use serial::ItemId;
 use serial::PacketNumber;
 

@@ -2,8 +2,8 @@
 ghost use Prim.Native.Nat.{_≤_};
 use reassembly::effects::Answer;
 use reassembly::effects::Message;
-use reassembly::plan::Fragment;
-use reassembly::words::AckHeader;
+use reassembly_plan::plan::Fragment;
+use reassembly_plan::words::AckHeader;
 use script::Said;
 use script::print;
 use serial::PacketNumber;

@@ -5,15 +5,15 @@ use Prim.Native.Nat.{ℕ}
 use lib.ListN.{length}
 use Rattle.terms.specs.declared.Sizes.{Sizes}
 use Rattle.terms.specs.declared.Refusal.{Refusal}
-use Rattle.acknowledgment.specs.State.{tableOf}
-use Rattle.acknowledgment.specs.declared.Acknowledgment.{Acknowledgment}
+use Rattle.acks.specs.State.{tableOf}
+use Rattle.acks.specs.declared.Acknowledgment.{Acknowledgment}
 use Rattle.ends.specs.State.{State, countersOf}
 use Rattle.ends.specs.declared.End.{End}
 use Rattle.sending.specs.Plan.{planOf}
 use Rattle.packet.specs.Build.{Writes}
-use Rattle.sending.specs.Datagrams.{datagramFor, countOf}
+use Rattle.datagrams.specs.Datagrams.{datagramFor, countOf}
 use Rattle.sending.specs.Send.{identifiedIn, recordOf, keptBy, Keeping, Performs, transmittedOf, Sends}
-use Rattle.sending.specs.declared.Item.{Item}
+use Rattle.datagrams.specs.declared.Item.{Item}
 use Rattle.sending.specs.declared.Answer.the-variants.{Datagram, Refused}
 use Rattle.sending.specs.declared.Sent.{Sent}
 use Rattle.sending.specs.declared.effects.Identified.{Identified}

@@ -8,27 +8,32 @@ use native.Mathlib.Omega.{arith}
 use lib.Dec.{ltb, eqb}
 use lib.ListN.{length, take}
 use borrow.Author.Tests.{ltb-false, eqb-false, ne-eqb}
-use Rattle.laws.proofs.Cases.{case, lt-or-le}
+use Rattle.laws.proofs.Cases.{case, neither, lt-or-le}
 use Rattle.keys.proofs.First.{first-le}
 use Rattle.terms.specs.declared.Sizes.{Sizes}
 use Rattle.terms.specs.declared.Refusal.{Refusal}
 use Rattle.terms.specs.declared.Refusal.the-variants.{BadHeader, TooLong, Full, NoStream, ExceededMaxFragments}
 use Rattle.splitter.specs.Split.{needed}
 use Rattle.flight.proofs.Room.{place-le, full-place}
-use Rattle.arranging.specs.declared.ids.StreamIds.{StreamIds}
-use Rattle.arranging.specs.Ids.{placeOf}
-use Rattle.arranging.specs.declared.ordered.OrderingStreams.{OrderingStreams}
+use Rattle.arranging_plan.specs.declared.ids.StreamIds.{StreamIds}
+use Rattle.arranging_plan.specs.Ids.{placeOf}
+use Rattle.arranging_plan.specs.declared.ordered.OrderingStreams.{OrderingStreams}
 use Rattle.arranging.specs.declared.sequenced.SequencingStreams.{SequencingStreams}
-use Rattle.packet.specs.declared.DeliveryGuarantee.{DeliveryGuarantee}
-use Rattle.packet.specs.declared.DeliveryGuarantee.the-variants.{Unreliable, Reliable}
-use Rattle.packet.specs.declared.OrderingGuarantee.{OrderingGuarantee}
-use Rattle.packet.specs.declared.OrderingGuarantee.the-variants.{None, Sequenced, Ordered}
-use Rattle.sending.proofs.Fits.{take-most}
+use Rattle.packet_table.specs.declared.DeliveryGuarantee.{DeliveryGuarantee}
+use Rattle.packet_table.specs.declared.DeliveryGuarantee.the-variants.{Unreliable, Reliable}
+use Rattle.packet_table.specs.declared.OrderingGuarantee.{OrderingGuarantee}
+use Rattle.packet_table.specs.declared.OrderingGuarantee.the-variants.{None, Sequenced, Ordered}
+use Rattle.datagrams.proofs.Fits.{take-most}
 use Rattle.sending.specs.Plan.{isListed, isLong, placeBy, streamPlace, isFull, flightPlace, planOf}
-use Rattle.sending.specs.declared.Item.{Item}
+use Rattle.datagrams.specs.declared.Item.{Item}
 use Rattle.sending.specs.declared.plan.Sending.{Sending}
 use Rattle.sending.specs.declared.plan.Plan.{Plan}
 use Rattle.sending.specs.declared.plan.Plan.the-variants.{Refuse, Send}
+
+module _ (f n : ℕ) (i : Item) where
+  pub not-over : isLong f i n ≡ false → n ≤ 65535
+  unfolding isLong
+  not-over e = ltb-false 65535 n (neither (ltb 65535 n) _ e .0)
 
 -- 6 is that there is no place
 pub no-place : (d : DeliveryGuarantee) (n : ℕ) (number : List ℕ) → 1 ≤ length number

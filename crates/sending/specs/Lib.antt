@@ -1,4 +1,2 @@
 pub mod Plan
-pub mod Datagrams
 pub mod Send
-pub mod Further

@@ -5,18 +5,18 @@ use mathlib.Core.List.{List}
 use lib.Dec.{ltb, eqb}
 use Rattle.terms.specs.declared.Sizes.{Sizes}
 use Rattle.terms.specs.declared.Refusal.the-variants.{BadHeader, TooLong, Full, NoStream, ExceededMaxFragments}
-use Rattle.packet.specs.Table.{rule, listed}
-use Rattle.packet.specs.declared.PacketType.the-variants.{Packet}
-use Rattle.packet.specs.declared.DeliveryGuarantee.{DeliveryGuarantee}
-use Rattle.packet.specs.declared.DeliveryGuarantee.the-variants.{Unreliable, Reliable}
-use Rattle.packet.specs.declared.OrderingGuarantee.{OrderingGuarantee}
-use Rattle.packet.specs.declared.OrderingGuarantee.the-variants.{None, Sequenced, Ordered}
+use Rattle.packet_table.specs.Table.{rule, listed}
+use Rattle.packet_table.specs.declared.PacketType.the-variants.{Packet}
+use Rattle.packet_table.specs.declared.DeliveryGuarantee.{DeliveryGuarantee}
+use Rattle.packet_table.specs.declared.DeliveryGuarantee.the-variants.{Unreliable, Reliable}
+use Rattle.packet_table.specs.declared.OrderingGuarantee.{OrderingGuarantee}
+use Rattle.packet_table.specs.declared.OrderingGuarantee.the-variants.{None, Sequenced, Ordered}
 use Rattle.splitter.specs.Split.{needed}
 use Rattle.flight.specs.Places.{placeOf as placeInFlight, full}
-use Rattle.arranging.specs.Ids.{placeOf}
-use Rattle.arranging.specs.declared.ordered.OrderingStreams.{OrderingStreams}
+use Rattle.arranging_plan.specs.Ids.{placeOf}
+use Rattle.arranging_plan.specs.declared.ordered.OrderingStreams.{OrderingStreams}
 use Rattle.arranging.specs.declared.sequenced.SequencingStreams.{SequencingStreams}
-use Rattle.sending.specs.declared.Item.{Item}
+use Rattle.datagrams.specs.declared.Item.{Item}
 use Rattle.sending.specs.declared.plan.Plan.{Plan}
 use Rattle.sending.specs.declared.plan.Plan.the-variants.{Refuse, Send}
 

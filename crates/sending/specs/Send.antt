@@ -13,18 +13,19 @@ use Rattle.terms.specs.declared.Sizes.{Sizes}
 use Rattle.received.specs.Record.{slotCount}
 use Rattle.flight.specs.Entry.{packed}
 use Rattle.flight.specs.declared.SentPacket.{SentPacket}
-use Rattle.acknowledgment.specs.State.{State as Acks, tableOf, sentOne}
-use Rattle.acknowledgment.specs.declared.Acknowledgment.{Acknowledgment}
-use Rattle.packet.specs.Table.{orderingNumber}
-use Rattle.packet.specs.declared.DeliveryGuarantee.{DeliveryGuarantee}
-use Rattle.packet.specs.declared.DeliveryGuarantee.the-variants.{Unreliable, Reliable}
-use Rattle.packet.specs.declared.OrderingGuarantee.{OrderingGuarantee}
-use Rattle.packet.specs.declared.OrderingGuarantee.the-variants.{None, Sequenced, Ordered}
+use Rattle.acks.specs.State.{State as Acks, tableOf, sentOne}
+use Rattle.acks.specs.declared.Acknowledgment.{Acknowledgment}
+use Rattle.packet_table.specs.Table.{orderingNumber}
+use Rattle.packet_table.specs.declared.DeliveryGuarantee.{DeliveryGuarantee}
+use Rattle.packet_table.specs.declared.DeliveryGuarantee.the-variants.{Unreliable, Reliable}
+use Rattle.packet_table.specs.declared.OrderingGuarantee.{OrderingGuarantee}
+use Rattle.packet_table.specs.declared.OrderingGuarantee.the-variants.{None, Sequenced, Ordered}
 use Rattle.splitter.specs.Split.{needed}
-use Rattle.arranging.specs.Ids.{madeAt}
-use Rattle.arranging.specs.Ordered.{streamAt as orderedAt, numberedAt as numberedOrdered}
+use Rattle.arranging_plan.specs.Ids.{madeAt}
+use Rattle.arranging_plan.specs.Ordered.{streamAt as orderedAt}
+use Rattle.arranging.specs.Steps.{numberedAt as numberedOrdered}
 use Rattle.arranging.specs.Sequenced.{streamAt as sequencedAt, storedAt, numberedAt as numberedSequenced}
-use Rattle.arranging.specs.declared.ordered.OrderingStreams.{OrderingStreams}
+use Rattle.arranging_plan.specs.declared.ordered.OrderingStreams.{OrderingStreams}
 use Rattle.arranging.specs.declared.ordered.NewItem.{NewItem as NewOrdered}
 use Rattle.arranging.specs.declared.sequenced.SequencingStreams.{SequencingStreams}
 use Rattle.arranging.specs.declared.sequenced.NewItem.{NewItem as NewSequenced}
@@ -32,10 +33,10 @@ use Rattle.ends.specs.State.{State, countersOf, Leaves}
 use Rattle.ends.specs.declared.End.{End}
 use Rattle.sending.specs.Plan.{planOf, isLong}
 use Rattle.packet.specs.Build.{over}
-use Rattle.sending.specs.Datagrams.{datagramFor, countOf}
-use Rattle.sending.specs.declared.Item.{Item}
-use Rattle.sending.specs.declared.Identifier.{Identifier}
-use Rattle.sending.specs.declared.Identifier.the-variants.{Next, Again}
+use Rattle.datagrams.specs.Datagrams.{datagramFor, countOf}
+use Rattle.datagrams.specs.declared.Item.{Item}
+use Rattle.datagrams.specs.declared.Identifier.{Identifier}
+use Rattle.datagrams.specs.declared.Identifier.the-variants.{Next, Again}
 use Rattle.sending.specs.declared.Answer.{Answer}
 use Rattle.sending.specs.declared.Answer.the-variants.{Datagram, Refused}
 use Rattle.sending.specs.declared.Sent.{Sent}

@@ -5,15 +5,14 @@ ghost use lib.ListN.{length};
 ghost use Rattle.received.specs.Record.{KnownLapped};
 ghost use Rattle.sending.specs.Send.{identifiedOf, sequencedAs, orderedAs, keptBy, Keeping, recordOf, SendReady, Performs};
 use crate::Answer;
-use crate::Identifier;
-use crate::Item;
 use crate::Sent;
 use crate::Written;
-use crate::datagrams;
 use crate::plan::Sending;
-use acknowledgment::Acknowledgment;
+use acks::Acknowledgment;
 use arranging::ordered::OrderingStreams;
 use arranging::sequenced::SequencingStreams;
+use datagrams::Identifier;
+use datagrams::Item;
 use ends::End;
 use flight::SentPacket;
 use packet::DeliveryGuarantee;
@@ -182,7 +181,7 @@ fn keep(
     ensures { λ r. ⌜ Keeping (keptBy (item .delivery) acks f at (now (number .entry)) (now (records .entry)) (now (payloads .entry)) (recordOf item id) (now (payload .entry))) r (now (number .exit)) (now (records .exit)) (now (payloads .exit)) ⌝ }
 {
     let delivery = item.delivery;
-    let next = acknowledgment::steps::sent(acks);
+    let next = acks::steps::sent(acks);
     match delivery {
         DeliveryGuarantee::Unreliable => acks,
         DeliveryGuarantee::Reliable => {

@@ -1,41 +1,23 @@
-// An item is sent, or sent again: what that makes of one end, once 1, 2 and 13 are answered. Read `transmit` first; `fragment`
-// writes the further datagrams of an item that goes as fragments. Everything is judged (plan.rt) before anything is written
-// (effects.rt). It leaves out when to send again, and the users' calls with their gate, which are `link`.
+// An item is sent, or sent again: what that makes of one end, once 1, 2 and 13 are answered. Read `transmit` first. Everything is
+// judged (plan.rt) before anything is written (effects.rt). It leaves out what the datagrams of an item are, which is
+// `datagrams`, when to send again, and the users' calls with their gate, which are `link`.
 ghost use mathlib.Core.Path.{_≡_};
 ghost use Rattle.terms.specs.declared.Gate.the-variants.{Open};
 ghost use Rattle.received.specs.Record.{KnownLapped};
-ghost use Rattle.flight.specs.AtHome.{KnownHome};
-ghost use Rattle.acknowledgment.specs.State.{tableOf};
+ghost use Rattle.flight_home.specs.AtHome.{KnownHome};
+ghost use Rattle.acks.specs.State.{tableOf};
 ghost use Rattle.ends.specs.State.{lending};
 ghost use Rattle.ends.specs.Gate.{gateOf};
 ghost use Rattle.sending.specs.Send.{transmittedOf, Sends};
+use datagrams::Item;
 use ends::End;
-use packet::DeliveryGuarantee;
-use packet::OrderingGuarantee;
 use plan::Plan;
-use serial::ItemId;
 use serial::PacketNumber;
 use terms::Refusal;
 use terms::Sizes;
 
-pub mod datagrams;
 pub mod effects;
-pub mod further;
 pub mod plan;
-
-// The identifier of an item on its stream: the next one, or the one that it had.
-pub enum Identifier {
-    Next,
-    Again(ItemId),
-}
-
-// What is asked of an item. `stream` and `identifier` are those of an ordered or sequenced one.
-pub struct Item {
-    pub delivery: DeliveryGuarantee,
-    pub ordering: OrderingGuarantee,
-    pub stream: u8,
-    pub identifier: Identifier,
-}
 
 // The datagram at the start of the output. The packet has the number where it is reliable; it is so many datagrams: one, or
 // its fragments, of which this is the first.

@@ -4,12 +4,12 @@ ghost use mathlib.Core.Bool.{true};
 ghost use Prim.Native.Nat.{_≤_};
 ghost use lib.ListN.{length};
 ghost use Rattle.terms.specs.Sizes.{inRange};
-ghost use Rattle.flight.specs.AtHome.{KnownHome};
+ghost use Rattle.flight_home.specs.AtHome.{KnownHome};
 ghost use Rattle.sending.specs.Plan.{isListed, isSplit, isLong, streamPlace, flightPlace, planOf};
-use crate::Item;
-use acknowledgment::Acknowledgment;
+use acks::Acknowledgment;
 use arranging::ordered::OrderingStreams;
 use arranging::sequenced::SequencingStreams;
+use datagrams::Item;
 use packet::DeliveryGuarantee;
 use packet::OrderingGuarantee;
 use packet::PacketType;
@@ -140,6 +140,6 @@ fn flight_place(
 {
     match delivery {
         DeliveryGuarantee::Unreliable => 0,
-        DeliveryGuarantee::Reliable => flight::direct::place(number, packet, home),
+        DeliveryGuarantee::Reliable => flight_home::direct::place(number, packet, home),
     }
 }

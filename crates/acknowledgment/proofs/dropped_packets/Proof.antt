@@ -14,8 +14,8 @@ use Rattle.laws.proofs.Cases.{on, off}
 use Rattle.terms.specs.Sizes.{inRange}
 use Rattle.terms.proofs.Ranges.{InRange, in-range-means}
 use Rattle.terms.specs.declared.Refusal.the-variants.{BadSizes, BadStorage, BadState}
-use Rattle.acknowledgment.specs.State.{State, lending, tableOf, slotOf}
-use Rattle.acknowledgment.proofs.Gates.{Lent, lent-means, sound-means}
+use Rattle.acks.specs.State.{State, lending, tableOf, slotOf}
+use Rattle.acks.proofs.Gates.{Lent, lent-means, sound-means}
 use borrow.Author.Tests.{le-leb, lt-leb}
 use Rattle.flight.specs.Lost.{Table, dropOf}
 use Rattle.acknowledgment.specs.Calls.{isLent, isSound, answeredBy, droppedOf}

@@ -14,8 +14,8 @@ use Rattle.laws.proofs.Cases.{on, off}
 use Rattle.terms.specs.Sizes.{inRange}
 use Rattle.terms.proofs.Ranges.{in-range-means}
 use Rattle.terms.specs.declared.Refusal.the-variants.{BadSizes, BadStorage, BadState}
-use Rattle.acknowledgment.specs.State.{State, lending, tableOf}
-use Rattle.acknowledgment.proofs.Gates.{Lent, lent-means}
+use Rattle.acks.specs.State.{State, lending, tableOf}
+use Rattle.acks.proofs.Gates.{Lent, lent-means}
 use Rattle.acknowledgment.specs.Calls.{isLent, isSound, incomingOf}
 use Rattle.acknowledgment.proofs.Kept.{not-heard}
 

@@ -13,15 +13,15 @@ use Rattle.laws.proofs.Cases.{on, off}
 use Rattle.terms.specs.Sizes.{inRange}
 use Rattle.terms.proofs.Ranges.{InRange, in-range-means}
 use Rattle.terms.specs.declared.Refusal.the-variants.{BadSizes, BadStorage, BadState, TooLong, ExceededMaxFragments, Full}
-use Rattle.acknowledgment.specs.State.{State, lending, tableOf, slotOf}
-use Rattle.acknowledgment.proofs.Gates.{Lent, lent-means}
+use Rattle.acks.specs.State.{State, lending, tableOf, slotOf}
+use Rattle.acks.proofs.Gates.{Lent, lent-means}
 use lib.Dec.{eqb, ltb}
 use native.Mathlib.Nat.{mul-le-mul, mul-le-mul-right}
 use borrow.Author.Tests.{lt-ltb, le-ltb, eq-eqb, ne-eqb}
 use Rattle.laws.proofs.Slots.{slot-end}
 use Rattle.flight.specs.Places.{placeOf, full}
 use Rattle.flight.proofs.Room.{place-le, full-place}
-use Rattle.acknowledgment.specs.Gate.{tooLong}
+use Rattle.acks.specs.Gate.{tooLong}
 use Rattle.acknowledgment.specs.Calls.{isLent, isSound, outgoingOf}
 use Rattle.acknowledgment.proofs.Kept.{not-sent}
 

@@ -2,7 +2,7 @@
 use borrow.Author.Needs.{needs}
 use Rattle.ends.proofs.fresh.Statement.{statement}
 use Rattle.ends.proofs.fresh.Tie as tie
-use Rattle.acknowledgment.specs.State.{freshCounters}
+use Rattle.acks.specs.State.{freshCounters}
 
 none-requires : tie.Need-none-requires
 none-requires c κs = search needs

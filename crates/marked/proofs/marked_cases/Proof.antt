@@ -10,11 +10,12 @@ use Rattle.terms.specs.Sizes.{between, inRange}
 use Rattle.flight.specs.Acked.{isAcked}
 use Rattle.flight.specs.Lost.{isLost, leastLost, dropOf}
 use Rattle.splitter.specs.Split.{cut, needed, splitOf}
-use Rattle.reassembly.specs.Plan.{found, judged, passed, planOf}
+use Rattle.reassembly_plan.specs.Plan.{found, judged, passed, planOf}
 use Rattle.reassembly.specs.Effects.{numAfter, slotsAfter, entryAfter, headerAfter, bytesAfter, outputAfter, performed, joinedAnswer, answerOf}
-use Rattle.reassembly.specs.Gate.{countBelow, allBelow, entrySound, sound, tooShort, gateOf, decided, handled}
+use Rattle.reassembly_plan.specs.Gate.{countBelow, allBelow, entrySound, sound, tooShort, gateOf}
+use Rattle.reassembly.specs.Call.{decided, handled}
 use Rattle.sequence_buffer.specs.Buffer.{removedSlots}
-use Rattle.ordering.specs.Arrange.{planOf as arrangePlan}
+use Rattle.ordering_plan.specs.Arrange.{planOf as arrangePlan}
 use Rattle.sequencing.specs.Sequence.{sequenceOf}
 use Rattle.marked.specs.Cases.{cases, accepted, from, having, fieldAfter, same, numbers, droppedFirst, dropped, splitNumber, isHeld, isPast, goesOut, allGoOut, told, joined, holds, hold}
 use Rattle.marked.proofs.marked_cases.Statement.{statement}

@@ -47,16 +47,16 @@ use Rattle.terms.proofs.Sizes.Laws as Z′
 use Rattle.serial.specs.declared.ItemId.{ItemId}
 use Rattle.serial.proofs.ItemId as I
 use Rattle.serial.proofs.ItemId.Laws as I′
-use Rattle.ordering.specs.State.{lending}
-use Rattle.ordering.specs.Gate.{Arranges}
-use Rattle.ordering.specs.declared.OrderingStream.{OrderingStream}
+use Rattle.ordering_plan.specs.State.{lending}
+use Rattle.ordering.specs.Calls.{Arranges}
+use Rattle.ordering_plan.specs.declared.OrderingStream.{OrderingStream}
 use Rattle.ordering.specs.declared.AfterArrange.{AfterArrange}
-use Rattle.ordering.proofs.OrderingStream as T
-use Rattle.ordering.proofs.OrderingStream.Laws as T′
+use Rattle.ordering_plan.proofs.OrderingStream as T
+use Rattle.ordering_plan.proofs.OrderingStream.Laws as T′
 use Rattle.ordering.proofs.AfterArrange as R
 use Rattle.ordering.proofs.AfterArrange.Laws as R′
-use Rattle.ordering.proofs.Arranged as E
-use Rattle.ordering.proofs.Arranged.Laws as E′
+use Rattle.ordering_plan.proofs.Arranged as E
+use Rattle.ordering_plan.proofs.Arranged.Laws as E′
 use Rattle.ordering.proofs.arrange as by-value
 use Rattle.ordering.proofs.arrange.Symbol as by-value-def
 use Rattle.ordering.proofs.arrange.Symbol.{name as #ordering·arrange}

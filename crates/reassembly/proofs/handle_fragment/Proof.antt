@@ -8,14 +8,16 @@ use lib.Seq.{length-take-le}
 use denote.Ref.{now}
 use borrow.Author.Tests.{lt-ltb, le-ltb}
 use Rattle.terms.specs.declared.Refusal.the-variants.{TooLong}
-use Rattle.reassembly.specs.Effects.{State}
-use Rattle.reassembly.specs.Gate.{stated, gateOf, decided}
-use Rattle.reassembly.specs.Room.{lending, Room}
-use Rattle.reassembly.specs.declared.plan.Plan.{Plan}
-use Rattle.reassembly.specs.declared.plan.Plan.the-variants.{Refuse}
 use Rattle.terms.specs.declared.Gate.{Gate}
 use Rattle.terms.specs.declared.Gate.the-variants.{Open}
-use Rattle.reassembly.proofs.Passing.{Opens, gate-opens, open-room, kept, done}
+use Rattle.reassembly_plan.specs.Gate.{gateOf}
+use Rattle.reassembly_plan.specs.declared.plan.Plan.{Plan}
+use Rattle.reassembly_plan.specs.declared.plan.Plan.the-variants.{Refuse}
+use Rattle.reassembly_plan.proofs.Opening.{Opens, gate-opens}
+use Rattle.reassembly.specs.Effects.{State}
+use Rattle.reassembly.specs.Call.{stated, decided}
+use Rattle.reassembly.specs.Room.{lending, Room}
+use Rattle.reassembly.proofs.Passing.{open-room, kept, done}
 
 -- what is lent, and what the gate and the whole call decide of it
 abbrev whole : tie.Start → State

@@ -10,11 +10,11 @@ use denote.Ref.{now}
 use Rattle.terms.specs.declared.Refusal.the-variants.{TooLong}
 use Rattle.packet.specs.Read.{readOf}
 use Rattle.packet.specs.declared.Read.the-variants.{Found}
-use Rattle.packet.specs.declared.PacketType.the-variants.{Packet, Fragment, Heartbeat as IsHeartbeat}
-use Rattle.packet.proofs.Laws.{within}
+use Rattle.packet_table.specs.declared.PacketType.the-variants.{Packet, Fragment, Heartbeat as IsHeartbeat}
+use Rattle.packet_laws.proofs.Laws.{within}
 use Rattle.ends.specs.State.{State, lending}
 use Rattle.ends.proofs.Opened.{Opened, opened}
-use Rattle.receiving.specs.declared.Answer.the-variants.{Refused, Heartbeat}
+use Rattle.receiving_plan.specs.declared.Answer.the-variants.{Refused, Heartbeat}
 use Rattle.receiving.proofs.Steps.{on-unread, on-long, on-packet, on-fragment, on-heartbeat, told-why, rest, left-all, by-packet, by-fragment}
 
 -- the end as it was when the datagram came

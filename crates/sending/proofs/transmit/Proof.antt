@@ -7,11 +7,12 @@ use lib.ListN.{length}
 use denote.Ref.{now}
 use Rattle.ends.specs.State.{State, lending}
 use Rattle.ends.proofs.Opened.{Opened, opened}
-use Rattle.acknowledgment.specs.State.{tableOf}
+use Rattle.acks.specs.State.{tableOf}
+use Rattle.datagrams.proofs.Fragments.{whole}
 use Rattle.sending.specs.Plan.{planOf}
 use Rattle.sending.specs.declared.plan.Plan.{Plan}
 use Rattle.sending.specs.declared.plan.Plan.the-variants.{Refuse, Send}
-use Rattle.sending.proofs.Ready.{whole, ready}
+use Rattle.sending.proofs.Ready.{ready}
 use Rattle.sending.proofs.Performed.{kept, sends}
 
 abbrev state : tie.Start → State

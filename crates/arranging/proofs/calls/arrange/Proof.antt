@@ -7,12 +7,14 @@ use lib.ListN.{length}
 use native.Mathlib.Omega.{arith}
 use denote.Ref.{now}
 use Rattle.terms.specs.declared.Gate.the-variants.{Open, Shut}
-use Rattle.arranging.specs.Ids.{placeOf}
-use Rattle.arranging.specs.Ordered.{States, lendingAll}
-use Rattle.arranging.specs.declared.ordered.Planned.{Planned}
-use Rattle.arranging.specs.Calls.{gateOf, isRefused, arrangeOf}
-use Rattle.arranging.proofs.Parts.{place-lt}
-use Rattle.arranging.proofs.Gates.{Opened, opened, Accepted, accepted, arrange-shut, arrange-long, arrange-open, refused-nothing}
+use Rattle.arranging_plan.specs.Ids.{placeOf}
+use Rattle.arranging_plan.specs.Ordered.{States, lendingAll}
+use Rattle.arranging_plan.specs.declared.ordered.Planned.{Planned}
+use Rattle.arranging_plan.specs.Gate.{gateOf, isRefused}
+use Rattle.arranging.specs.Calls.{arrangeOf}
+use Rattle.arranging_plan.proofs.Parts.{place-lt}
+use Rattle.arranging_plan.proofs.Gates.{Opened, opened, Accepted, accepted, refused-nothing}
+use Rattle.arranging.proofs.Answers.{arrange-shut, arrange-long, arrange-open}
 
 abbrev whole : tie.Start → States
 whole c = lendingAll (c .args .streams) (now (c .args .index)) (now (c .args .lengths)) (now (c .args .bytes))

@@ -7,10 +7,10 @@ use native.Mathlib.Omega.{arith}
 use lib.ListN.{length}
 use borrow.Author.Tests.{eq-eqb, ne-eqb}
 use Rattle.laws.proofs.Cases.{on, off}
-use Rattle.arranging.specs.Ids.{soundIds, placeOf}
+use Rattle.arranging_plan.specs.Ids.{soundIds, placeOf}
 use Rattle.arranging.specs.Sequence.{sequenced}
-use Rattle.arranging.proofs.Parts.{place-lt}
-use Rattle.arranging.proofs.Sound.{ids-four}
+use Rattle.arranging_plan.proofs.Parts.{place-lt}
+use Rattle.arranging_plan.proofs.Sound.{ids-four}
 
 known-sound : (c : tie.Else1) → soundIds (c .before .before .before .args .streams .known) ≡ true
 known-sound c = sym (c .before .sound .ensures) ∙ on (c .before .sound .result) (c .if1 .left)

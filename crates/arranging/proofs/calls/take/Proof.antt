@@ -4,9 +4,10 @@ use Rattle.arranging.proofs.calls.take.Tie as tie
 use mathlib.Core.Path.{_≡_, refl, sym, _∙_}
 use native.Mathlib.Omega.{arith}
 use denote.Ref.{now}
-use Rattle.arranging.specs.Ordered.{States, lendingAll}
+use Rattle.arranging_plan.specs.Ordered.{States, lendingAll}
 use Rattle.terms.specs.declared.Gate.the-variants.{Open, Shut}
-use Rattle.arranging.proofs.Gates.{opened, take-shut, take-open}
+use Rattle.arranging_plan.proofs.Gates.{opened}
+use Rattle.arranging.proofs.Answers.{take-shut, take-open}
 
 abbrev whole : tie.Start → States
 whole c = lendingAll (c .args .streams) (now (c .args .index)) (now (c .args .lengths)) (now (c .args .bytes))

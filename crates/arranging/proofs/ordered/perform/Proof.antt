@@ -4,7 +4,7 @@ use Rattle.arranging.proofs.ordered.perform.Tie as tie
 use native.Mathlib.Omega.{arith}
 use native.Mathlib.Nat.{add-sub-cancel-left}
 use Prim.Native.Nat.{_+_, _*_, _≤_}
-use Rattle.arranging.proofs.Parts.{block-end}
+use Rattle.arranging_plan.proofs.Parts.{block-end}
 
 -- the place's bytes end within the lent ones
 ends : (c : tie.Start) → c .args .j * (64 * c .args .f) + 64 * c .args .f ≤ 4 * (64 * c .args .f)

@@ -7,9 +7,9 @@ use Prim.Native.Nat.{_+_, _*_, _<_, _≤_}
 use mathlib.Core.Path.{_≡_, refl, sym}
 use lib.ListN.{length}
 use denote.Ref.{now}
-use Rattle.arranging.specs.Ids.{placeOf}
-use Rattle.arranging.specs.Ordered.{States, lendingAll}
-use Rattle.arranging.proofs.Parts.{block-end}
+use Rattle.arranging_plan.specs.Ids.{placeOf}
+use Rattle.arranging_plan.specs.Ordered.{States, lendingAll}
+use Rattle.arranging_plan.proofs.Parts.{block-end}
 use Rattle.arranging.proofs.Kept.{next-here, next-away, taken-back}
 
 abbrev all : tie.Start → States

@@ -9,7 +9,7 @@ use Prim.Native.Nat.{ℕ}
 use denote.Ref.{now}
 use Rattle.laws.proofs.Cases.{on, off}
 use Rattle.terms.proofs.Ranges.{InRange, in-range-means}
-use Rattle.acknowledgment.specs.Gate.{lent}
+use Rattle.acks.specs.Gate.{lent}
 use Rattle.ends.specs.State.{State, lending, freshEnd}
 use Rattle.ends.proofs.Rungs.{lent-acks, lent-parts, lent-ordered}
 

@@ -10,9 +10,9 @@ use lib.Seq.{length-take-le}
 use denote.Ref.{now}
 use Rattle.laws.proofs.Cases.{on, off}
 use Rattle.terms.proofs.Ranges.{InRange, in-range-means}
-use Rattle.acknowledgment.specs.Gate.{sound as acksSound}
-use Rattle.reassembly.specs.Gate.{sound as partsSound}
-use Rattle.arranging.specs.Ordered.{soundAll}
+use Rattle.acks.specs.Gate.{sound as acksSound}
+use Rattle.reassembly_plan.specs.Gate.{sound as partsSound}
+use Rattle.arranging_plan.specs.Ordered.{soundAll}
 use Rattle.ends.specs.State.{State, lending}
 use Rattle.ends.proofs.Rungs.{none-received, sound-acks, sound-parts, sound-ordered, sound-sequenced}
 

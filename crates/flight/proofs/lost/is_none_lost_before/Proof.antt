@@ -8,8 +8,7 @@ use native.Mathlib.Omega.{arith}
 use lib.ListN.{getD}
 use denote.Ref.{now}
 use Rattle.laws.proofs.Cases.{both}
-use Rattle.flight.specs.AtHome.{NoneLostBefore}
-use Rattle.flight.specs.Lost.{isLost}
+use Rattle.flight.specs.Lost.{isLost, NoneLostBefore}
 use Rattle.flight.proofs.Loops.{no-lost}
 
 part : (c : tie.Else1) → ((k : ℕ) → k < 32 → isLost (c .before .before .args .remote .0) (getD (now (c .before .before .args .number)) (c .before .before .args .end - 32 + k) 0) ≡ false)

@@ -8,7 +8,7 @@ use native.Mathlib.Omega.{arith}
 use lib.ListN.{length, getD, take, drop}
 use lib.Seq.{length-take-le}
 use denote.Ref.{now}
-use Rattle.ordering.specs.State.{State, lending}
+use Rattle.ordering_plan.specs.State.{State, lending}
 use Rattle.ordering.proofs.Places.{part-length, copied-out}
 use Rattle.ordering.proofs.Next.{next-none, next-item, Touched, touched}
 

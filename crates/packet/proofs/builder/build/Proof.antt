@@ -10,7 +10,7 @@ use borrow.Author.Tests.{lt-ltb, le-ltb}
 use Rattle.terms.specs.declared.Refusal.the-variants.{BadStorage, BadHeader}
 use Rattle.packet.specs.declared.Built.the-variants.{Datagram, Refused}
 use Rattle.packet.specs.Build.{buildOf}
-use Rattle.packet.proofs.Lengths.{datagram-length}
+use Rattle.packet_table.proofs.Lengths.{datagram-length}
 
 headers-after-requires : tie.Need-headers-after-requires
 headers-after-requires c κs = search needs

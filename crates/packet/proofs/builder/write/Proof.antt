@@ -7,11 +7,11 @@ use Prim.Native.Nat.{ℕ, _+_, _≤_}
 use mathlib.Core.List.{List, _++_}
 use lib.ListN.{length, drop}
 use native.Mathlib.Omega.{arith}
-use Rattle.packet.specs.declared.table.Following.{Following}
-use Rattle.packet.specs.Table.{follows}
-use Rattle.packet.specs.Layout.{payloadAt, datagram}
-use Rattle.packet.proofs.Lengths.{datagram-length}
-use Rattle.packet.proofs.Output.{put}
+use Rattle.packet_table.specs.declared.table.Following.{Following}
+use Rattle.packet_table.specs.Table.{follows}
+use Rattle.packet_table.specs.Layout.{payloadAt, datagram}
+use Rattle.packet_table.proofs.Lengths.{datagram-length}
+use Rattle.packet_table.proofs.Output.{put}
 use Rattle.packet.proofs.Whole.{whole}
 
 -- the payload starts where the table has it

@@ -6,10 +6,10 @@ use mathlib.Core.Path.{_≡_, refl}
 use Prim.Native.Nat.{ℕ}
 use mathlib.Core.List.{List}
 use native.Mathlib.Omega.{arith}
-use Rattle.packet.specs.Table.{hasFragment, hasAcked, hasArranging}
-use Rattle.packet.specs.Layout.{part, sizeOf, fragmentBytes, ackedBytes, arrangingBytes, followingBytes, ackedAt, arrangingAt}
-use Rattle.packet.proofs.Lengths.{fragment-length, acked-length}
-use Rattle.packet.proofs.Output.{three}
+use Rattle.packet_table.specs.Table.{hasFragment, hasAcked, hasArranging}
+use Rattle.packet_table.specs.Layout.{part, sizeOf, fragmentBytes, ackedBytes, arrangingBytes, followingBytes, ackedAt, arrangingAt}
+use Rattle.packet_table.proofs.Lengths.{fragment-length, acked-length}
+use Rattle.packet_table.proofs.Output.{three}
 
 -- where each header starts
 acked-place : (c : tie.After-write-fragment-header) → c .write-fragment-header .result .at ≡ ackedAt (c .before .before .before .before .before .before .before .before .before .args .following)

@@ -3,16 +3,15 @@ use borrow.Author.Needs.{needs}
 use Rattle.packet.proofs.builder.write_standard_header.Statement.{statement}
 use Rattle.packet.proofs.builder.write_standard_header.Tie as tie
 use mathlib.Core.Path.{_≡_, refl, _∙_}
-use Rattle.packet.specs.Numbers.{bytes}
-use Rattle.packet.proofs.Width.{bytes-length}
+use Rattle.packet_table.specs.Numbers.{bytes, written}
+use Rattle.packet_table.proofs.Width.{bytes-length}
 use Prim.Native.Nat.{ℕ}
 use mathlib.Core.List.{List}
 use lib.ListN.{length}
 use native.Mathlib.Omega.{arith}
-use Rattle.packet.specs.Table.{typeNumber, deliveryNumber, orderingNumber}
-use Rattle.packet.specs.Layout.{standardBytes}
-use Rattle.packet.specs.Build.{written}
-use Rattle.packet.proofs.Output.{same-length as kept-length, onto, three}
+use Rattle.packet_table.specs.Table.{typeNumber, deliveryNumber, orderingNumber}
+use Rattle.packet_table.specs.Layout.{standardBytes}
+use Rattle.packet_table.proofs.Output.{same-length as kept-length, onto, three}
 
 write-u16-requires : tie.Need-write-u16-requires
 write-u16-requires c κs = search needs

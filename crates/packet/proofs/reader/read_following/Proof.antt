@@ -8,9 +8,9 @@ use Prim.Native.Nat.{ℕ, _≤_, _<_}
 use mathlib.Core.List.{List}
 use lib.ListN.{length}
 use native.Mathlib.Omega.{arith}
-use Rattle.packet.specs.declared.table.Following.{Following}
-use Rattle.packet.specs.Table.{hasFragment, hasAcked}
-use Rattle.packet.specs.Layout.{ackedAt, arrangingAt, payloadAt}
+use Rattle.packet_table.specs.declared.table.Following.{Following}
+use Rattle.packet_table.specs.Table.{hasFragment, hasAcked}
+use Rattle.packet_table.specs.Layout.{ackedAt, arrangingAt, payloadAt}
 use Rattle.packet.specs.Read.{fragmentOf}
 use Rattle.packet.proofs.Stages.{past-cut, past-at, cut, uncut}
 

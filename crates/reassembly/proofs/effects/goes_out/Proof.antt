@@ -1,7 +1,7 @@
 use Rattle.reassembly.proofs.effects.goes_out.Statement.{statement}
 use Rattle.reassembly.proofs.effects.goes_out.Tie as tie
 use borrow.Author.Tests.{eq-eqb, ne-eqb}
-use Rattle.reassembly.proofs.Below.{bit-zero}
+use Rattle.reassembly_plan.proofs.Below.{bit-zero}
 
 returns : tie.Need-returns
 returns c = rw (eq-eqb _ _ (c .before .if1 .taken), bit-zero (c .before .before .before .args .entry .ids))

@@ -10,7 +10,7 @@ use lib.ListN.{length, take, drop, length-take, length-drop}
 use lib.Seq.{take-length}
 use denote.Ref.{now}
 use Rattle.reassembly.specs.Effects.{written, outputAfter}
-use Rattle.reassembly.specs.declared.plan.Plan.the-variants.{Refuse, Make, Join}
+use Rattle.reassembly_plan.specs.declared.plan.Plan.the-variants.{Refuse, Make, Join}
 
 -- a copy of all of a list
 all : (l output : List ℕ) → take (length l) l ++ drop (length l) output ≡ written l output

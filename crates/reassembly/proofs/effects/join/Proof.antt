@@ -10,7 +10,7 @@ use lib.ListN.{length, take, drop, length-take, length-drop}
 use denote.Ref.{now}
 use Rattle.laws.proofs.Slots.{pasted}
 use Rattle.reassembly.specs.Effects.{bytesAfter}
-use Rattle.reassembly.specs.declared.plan.Plan.the-variants.{Refuse, Make, Join}
+use Rattle.reassembly_plan.specs.declared.plan.Plan.the-variants.{Refuse, Make, Join}
 
 says : (c : tie.After-plan) → c .before .before .before .before .args .plan ≡ Join (c .plan .given .0 .0)
 says c = c .plan .given .1

@@ -4,7 +4,7 @@ use Rattle.reassembly.proofs.effects.keep_header.Tie as tie
 use mathlib.Core.Path.{_≡_}
 use borrow.Author.Tests.{eq-eqb, ne-eqb}
 use Rattle.reassembly.specs.Effects.{headerAfter}
-use Rattle.reassembly.specs.declared.plan.Plan.the-variants.{Refuse, Make, Join}
+use Rattle.reassembly_plan.specs.declared.plan.Plan.the-variants.{Refuse, Make, Join}
 
 enum-told : tie.Need-enum-told
 enum-told c = search needs

@@ -3,7 +3,7 @@ use Rattle.reassembly.proofs.effects.number_in.Statement.{statement}
 use Rattle.reassembly.proofs.effects.number_in.Tie as tie
 use mathlib.Core.Path.{_≡_}
 use Rattle.reassembly.specs.Effects.{numAfter, slotsAfter}
-use Rattle.reassembly.specs.declared.plan.Plan.the-variants.{Refuse, Make, Join}
+use Rattle.reassembly_plan.specs.declared.plan.Plan.the-variants.{Refuse, Make, Join}
 
 enum-told : tie.Need-enum-told
 enum-told c = search needs

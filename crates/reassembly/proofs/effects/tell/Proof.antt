@@ -3,7 +3,7 @@ use Rattle.reassembly.proofs.effects.tell.Statement.{statement}
 use Rattle.reassembly.proofs.effects.tell.Tie as tie
 use mathlib.Core.Path.{_≡_}
 use Rattle.reassembly.specs.Effects.{answerOf}
-use Rattle.reassembly.specs.declared.plan.Plan.the-variants.{Refuse, Make, Join}
+use Rattle.reassembly_plan.specs.declared.plan.Plan.the-variants.{Refuse, Make, Join}
 
 enum-known-plan : tie.Need-enum-known-plan
 enum-known-plan c = search needs

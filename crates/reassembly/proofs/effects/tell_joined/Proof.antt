@@ -3,7 +3,7 @@ use Rattle.reassembly.proofs.effects.tell_joined.Statement.{statement}
 use Rattle.reassembly.proofs.effects.tell_joined.Tie as tie
 use borrow.Author.Tests.{eq-eqb, ne-eqb}
 use Rattle.reassembly.specs.Effects.{joinedAnswer}
-use Rattle.reassembly.proofs.Below.{bit-zero}
+use Rattle.reassembly_plan.proofs.Below.{bit-zero}
 
 returns : tie.Need-returns
 unfolding joinedAnswer

@@ -3,7 +3,7 @@ use borrow.Author.Needs.{needs}
 use Rattle.sending.proofs.effects.keep.Statement.{statement}
 use Rattle.sending.proofs.effects.keep.Tie as tie
 use mathlib.Core.Path.{_≡_, refl}
-use Rattle.packet.specs.declared.DeliveryGuarantee.the-variants.{Unreliable, Reliable}
+use Rattle.packet_table.specs.declared.DeliveryGuarantee.the-variants.{Unreliable, Reliable}
 
 sent-requires : tie.Need-sent-requires
 sent-requires c κs = search needs

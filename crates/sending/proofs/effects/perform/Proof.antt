@@ -8,7 +8,8 @@ use lib.ListN.{length}
 use denote.Ref.{now}
 use Rattle.laws.proofs.Slots.{slot-end}
 use Rattle.terms.proofs.Ranges.{InRange, in-range-means}
-use Rattle.sending.proofs.Fits.{holds, few-datagrams, not-over, room}
+use Rattle.datagrams.proofs.Fits.{holds, few-datagrams, room}
+use Rattle.sending.proofs.Planned.{not-over}
 use Rattle.sending.proofs.Performed.{performed}
 
 sizes : (c : tie.Start) → InRange (c .args .sizes)

@@ -1,7 +1,7 @@
 use borrow.Author.Needs.{needs}
 use Rattle.sending.proofs.plan.is_listed.Statement.{statement}
 use Rattle.sending.proofs.plan.is_listed.Tie as tie
-use Rattle.packet.specs.Table.{follows}
+use Rattle.packet_table.specs.Table.{follows}
 
 headers-after-requires : tie.Need-headers-after-requires
 headers-after-requires c κs = search needs

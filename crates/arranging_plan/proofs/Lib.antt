@@ -1,0 +1,4 @@
+pub mod Once
+pub mod Parts
+pub mod Sound
+pub mod Gates

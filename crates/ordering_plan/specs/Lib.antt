@@ -1,0 +1,4 @@
+pub mod State
+pub mod Arrange
+pub mod Gate
+pub mod Room

@@ -1,0 +1,4 @@
+pub mod Parsed
+pub mod Reprinted
+pub mod Laws
+pub mod Theorems

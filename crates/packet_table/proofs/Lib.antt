@@ -1,0 +1,4 @@
+pub mod Width
+pub mod Output
+pub mod Rule
+pub mod Lengths

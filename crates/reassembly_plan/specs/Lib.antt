@@ -1,0 +1,4 @@
+pub mod Words
+pub mod Plan
+pub mod Gate
+pub mod Table
