@@ -1,20 +1,18 @@
 """The scripts of calls that both sides of bench/run perform: the kinds of step are those of crates/bench/src/script.rt.
 
 A round is: an item is sent, all its datagrams; a packet comes, all its datagrams; of an ordered stream what may be taken is, until
-none. A packet that comes has the number of the one just sent, or, where packets are lost, a higher one: every seventh number never
-comes. It acknowledges the oldest packet in flight, and tells of every number before that as received. The row says which calls are
-counted.
+none. A packet that comes acknowledges the oldest packet in flight, and tells of every number before that as received. The row says
+which calls are counted, and the line which numbers the packets have that come.
 """
 import struct
 import sys
+from collections.abc import Callable
 from dataclasses import dataclass
 
 SEND, SEND_ORDERED, RECEIVE, TAKE, LOOK = range(5)
 # What of a step is counted.
 NONE, THE_CALL, THE_CHECK, THE_MARKS = range(4)
 VERSION, ALL_RECEIVED, FRAGMENTS = 21513, 0xFFFFFFFF, 16
-# Where packets are lost, so many come for each that does not.
-COME = 6
 # So many rounds of which nothing is counted come first: after them as many packets are in flight as are to be.
 WARM = 300
 
@@ -38,8 +36,22 @@ class Row:
     swapped: bool = False
     parts_in: int = 1
     counts_in: bool = False
-    # Whether packets of the other end are lost.
-    lossy: bool = False
+
+
+@dataclass
+class Line:
+    """The numbers of the packets that come: of a round's packet, by which round it is."""
+    numbers: str
+    number: Callable[[int], int]
+    warm: int = WARM
+
+
+WHOLE = Line("no packet lost", lambda turn: turn)
+LOSSY = Line("every seventh packet of the other end lost", lambda turn: turn + turn // 6 + 1)
+# Lines on which the record of 33 numbers never stands in laps while it is counted, if no more rounds are than that.
+FIRST = Line("the first numbers of a connection", lambda turn: turn, warm=4)
+JUMPING = Line("each number 40 above the one before", lambda turn: 40 * turn)
+TURNING = Line("the numbers after 65,535", lambda turn: turn - WARM)
 
 
 EMPTY = Row("nothing")
@@ -72,10 +84,10 @@ def item(count):
     return bytes(i % 251 for i in range(count))
 
 
-def datagram(row, number, place, part, others, f):
+def datagram(row, line, turn, place, part, others, f):
     """What comes, made as the other end would. Its place is that among the items of the ordered stream."""
-    theirs = number + number // COME + 1 if row.lossy else number
-    acked = struct.pack(">HHI", theirs, (number - others) % 65536, ALL_RECEIVED)
+    theirs = line.number(turn) % 65536
+    acked = struct.pack(">HHI", theirs, (turn - others) % 65536, ALL_RECEIVED)
     ordering, arranging = (2, struct.pack(">HB", place ^ row.swapped, 0)) if row.ordered_in else (0, b"")
     if row.parts_in == 1:
         return struct.pack(">HBBB", VERSION, 0, 1, ordering) + acked + arranging + item(f)
@@ -90,13 +102,14 @@ def takes(row, place):
     return 2 if row.swapped and place % 2 else 1
 
 
-def round_of(row, number, place, others, f, check):
+def round_of(row, line, turn, place, others, f, check):
+    """One round. The packet that is sent in it has the round's number."""
     length = f if row.parts_out == 1 else f * row.parts_out
     yield from call(SEND_ORDERED if row.ordered_out else SEND, row.counts_out, check, data=item(length))
     for part in range(1, row.parts_out):
-        yield from call(LOOK, row.counts_out, check, packet=number, part=part)
+        yield from call(LOOK, row.counts_out, check, packet=turn, part=part)
     for part in range(row.parts_in):
-        yield from call(RECEIVE, row.counts_in, check, data=datagram(row, number, place, part, others, f))
+        yield from call(RECEIVE, row.counts_in, check, data=datagram(row, line, turn, place, part, others, f))
     for _ in range(takes(row, place)):
         yield from call(TAKE, row.counts_in, check)
     if row is EMPTY:
@@ -107,11 +120,11 @@ def joined(sizes, steps):
     return struct.pack(">HHHH", sizes.n, sizes.f, sizes.c, len(steps)) + b"".join(steps)
 
 
-def script(row, rounds, sizes, others=0, check=False):
-    warming = [(Row("warming", lossy=row.lossy), 0)] * WARM
+def script(row, rounds, sizes, line=WHOLE, others=0, check=False):
+    warming = [(Row("warming"), 0)] * line.warm
     steps = []
-    for number, (now, place) in enumerate(warming + [(row, place) for place in range(rounds)]):
-        steps += round_of(now, number, place, others, sizes.f, check)
+    for turn, (now, place) in enumerate(warming + [(row, place) for place in range(rounds)]):
+        steps += round_of(now, line, turn, place, others, sizes.f, check)
     return joined(sizes, steps)
 
 
@@ -120,8 +133,8 @@ def sample():
     swapped = next(row for row in ROWS if row.swapped)
     rounds = [(EMPTY, 0), (swapped, 0), (swapped, 1), *[(row, 0) for row in ROWS if not row.ordered_in]]
     steps = []
-    for number, (row, place) in enumerate(rounds):
-        steps += round_of(row, number, place, 0, 4, check=True)
+    for turn, (row, place) in enumerate(rounds):
+        steps += round_of(row, WHOLE, turn, place, 0, 4, check=True)
     return joined(Sizes(16, 4, 8), steps)
 
 
