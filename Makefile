@@ -14,10 +14,12 @@ test:
 
 # The same scripts to the Rust and to the port.
 compare:
+	tests/set-up
 	tests/compare
 
 # Instructions of the port against the Rust's, for the same work.
 bench:
+	tests/set-up
 	bench/run
 
 fmt:
