@@ -48,10 +48,10 @@ class Line:
 
 WHOLE = Line("no packet lost", lambda turn: turn)
 LOSSY = Line("every seventh packet of the other end lost", lambda turn: turn + turn // 6 + 1)
-# Lines on which the record of 33 numbers never stands in laps while it is counted, if no more rounds are than that.
+# Lines on which the slots of the received record do not stand in laps: on the first two for the first 28 rounds that are counted.
 FIRST = Line("the first numbers of a connection", lambda turn: turn, warm=4)
-JUMPING = Line("each number 40 above the one before", lambda turn: 40 * turn)
 TURNING = Line("the numbers after 65,535", lambda turn: turn - WARM)
+JUMPING = Line("each number 40 above the one before", lambda turn: 40 * turn)
 
 
 EMPTY = Row("nothing")
