@@ -26,13 +26,13 @@ pub fn is_home(sizes: Sizes, next: PacketNumber, number: &[u32], records: &[u64]
     )
 }
 
-// The slots of the received record stand in laps, as `keys::laps` sees it. A `false` says nothing. Requires the record's slots.
+// The slots of the received record stand in laps, as `key_parts::laps` sees it. A `false` says nothing. Requires the record's slots.
 pub fn is_lapped(received: &[u32]) -> bool
     requires { ⌜ slotCount ≤ length (now received) ⌝ }
     ensures { λ r. ⌜ KnownLapped r (now (received .entry)) ⌝ }
     ensures { λ r. ⌜ (r ≡ true → twice (slotsOf (now (received .entry))) ≡ false) ⌝ }
 {
-    keys::laps::is_lapped(&received[..received::SLOTS])
+    key_parts::laps::is_lapped(&received[..received::SLOTS])
 }
 
 // Not 13, knowing whether the packets in flight are at home. Requires sizes in range, and what is lent to be as long as stated.

@@ -58,7 +58,7 @@ fn least_lost(number: &[u32], remote: PacketNumber) -> u32
     let mut i = number.len();
     while 0 < i {
         if is_none_lost_before(number, i, remote) {
-            i -= keys::parts::PART;
+            i -= key_parts::parts::PART;
         } else {
             i -= 1;
             if number[i] < least {
@@ -76,11 +76,11 @@ fn is_none_lost_before(number: &[u32], end: usize, remote: PacketNumber) -> bool
     requires { ⌜ (0 < end) × (end ≤ length (now number)) ⌝ }
     ensures { λ r. ⌜ (r ≡ true → NoneLostBefore (remote .0) end (now (number .entry))) ⌝ }
 {
-    if end % keys::parts::PART != 0 {
+    if end % key_parts::parts::PART != 0 {
         return false;
     }
-    let at = end - keys::parts::PART;
-    if keys::parts::none_in(number, at) {
+    let at = end - key_parts::parts::PART;
+    if key_parts::parts::none_in(number, at) {
         return true;
     }
     none_lost_in(number, at, remote.0)
@@ -93,7 +93,7 @@ fn none_lost_in(number: &[u32], at: usize, remote: u16) -> bool
 {
     let mut all: u32 = 4294967295;
     let mut k: usize = 0;
-    while k < keys::parts::PART {
+    while k < key_parts::parts::PART {
         all = all & unless_near(number[at + k], remote);
         k += 1;
     }

@@ -27,7 +27,7 @@ fn bits_of(records: &[u64], at: usize) -> u64
 {
     let mut all: u64 = 0;
     let mut k: usize = 0;
-    while k < keys::wide::WIDE {
+    while k < key_parts::wide::WIDE {
         all = all | records[at + k];
         k += 1;
     }
@@ -42,7 +42,7 @@ fn do_fit_exactly(records: &[u64], at: usize, room: usize) -> bool
     let rest = (65535 - room as u64) * 4294967296;
     let mut all: u64 = 0;
     let mut k: usize = 0;
-    while k < keys::wide::WIDE {
+    while k < key_parts::wide::WIDE {
         all = all | (records[at + k] + rest);
         k += 1;
     }

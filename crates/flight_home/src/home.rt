@@ -57,13 +57,13 @@ fn are_parts_home(
     ensures { λ r. ⌜ (r ≡ true → (j : ℕ) → j < length (now (number .entry)) → PlaceHome room lap last (now (number .entry)) (now (records .entry)) j) ⌝ }
 {
     let newest = newest_part(number, here);
-    let end = number.len() / keys::wide::WIDE * keys::wide::WIDE;
+    let end = number.len() / key_parts::wide::WIDE * key_parts::wide::WIDE;
     let mut at: usize = 0;
     while at < end {
         if !is_part_home(number, records, room, here, newest, at, lap, last) {
             return false;
         }
-        at += keys::wide::WIDE;
+        at += key_parts::wide::WIDE;
     }
     if at == number.len() {
         return true;
@@ -106,7 +106,7 @@ fn is_free(number: &[u32], newest: usize, at: usize) -> bool
     if number[at + 63] < 65536 {
         return false;
     }
-    keys::wide::none_in(number, at)
+    key_parts::wide::none_in(number, at)
 }
 
 // Where the part begins that has the newest number, if that is in flight. It makes the answer quick, not right.
@@ -119,7 +119,7 @@ fn newest_part(number: &[u32], here: usize) -> usize
     if number[here - 1] >= 65536 {
         return number.len();
     }
-    (here - 1) / keys::wide::WIDE * keys::wide::WIDE
+    (here - 1) / key_parts::wide::WIDE * key_parts::wide::WIDE
 }
 
 // Each number of the part is its place added to one of two numbers, for nearly every part to the same. Requires the part.
@@ -130,10 +130,10 @@ fn is_in_step(number: &[u32], here: usize, at: usize, lap: u32, last: u32) -> bo
     if follows(number, at, nearer(here, at, lap, last) + at as u32) {
         return true;
     }
-    if !keys::parts::in_step(number, at, lap, last) {
+    if !key_parts::parts::in_step(number, at, lap, last) {
         return false;
     }
-    keys::parts::in_step(number, at + keys::parts::PART, lap, last)
+    key_parts::parts::in_step(number, at + key_parts::parts::PART, lap, last)
 }
 
 // The part's numbers follow each other. Requires the part.
@@ -147,7 +147,7 @@ fn follows(number: &[u32], at: usize, first: u32) -> bool
     if 65536 <= first {
         return false;
     }
-    keys::wide::follows(number, at, first)
+    key_parts::wide::follows(number, at, first)
 }
 
 // Before the place of the next number stand this lap's numbers, after it the last lap's.
@@ -166,7 +166,7 @@ fn after_free(number: &[u32], at: usize) -> usize
     ensures { λ r. ⌜ (at ≤ r) × (r ≤ length (now (number .entry))) × ((j : ℕ) → at ≤ j → j < r → 65536 ≤ getD (now (number .entry)) j 0) ⌝ }
 {
     if is_part_free(number, at) {
-        return at + keys::parts::PART;
+        return at + key_parts::parts::PART;
     }
     at
 }
@@ -240,7 +240,7 @@ fn first_number(number: &[u32]) -> u16 {
     let mut i: usize = 0;
     while i < number.len() {
         if is_part_free(number, i) {
-            i += keys::parts::PART;
+            i += key_parts::parts::PART;
         } else {
             if number[i] < 65536 {
                 return number[i] as u16;
@@ -255,14 +255,14 @@ fn first_number(number: &[u32]) -> u16 {
 fn is_part_free(number: &[u32], at: usize) -> bool
     ensures { λ r. ⌜ (r ≡ true → (at + 32 ≤ length (now (number .entry))) × ((k : ℕ) → k < 32 → 65536 ≤ getD (now (number .entry)) (at + k) 0)) ⌝ }
 {
-    if at % keys::parts::PART != 0 {
+    if at % key_parts::parts::PART != 0 {
         return false;
     }
-    if number.len() < keys::parts::PART {
+    if number.len() < key_parts::parts::PART {
         return false;
     }
-    if number.len() - keys::parts::PART < at {
+    if number.len() - key_parts::parts::PART < at {
         return false;
     }
-    keys::parts::none_in(number, at)
+    key_parts::parts::none_in(number, at)
 }

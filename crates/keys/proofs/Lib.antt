@@ -3,4 +3,3 @@ pub mod First
 pub mod Twice
 pub mod KeySet
 pub mod Homes
-pub mod Lapped

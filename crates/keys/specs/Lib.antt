@@ -1,4 +1,3 @@
 pub mod Keys
 pub mod Exact
 pub mod Home
-pub mod Laps

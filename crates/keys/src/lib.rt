@@ -5,11 +5,8 @@ ghost use mathlib.Core.Bool.{true, false};
 ghost use Rattle.keys.specs.Keys.{firstPlace, twice};
 ghost use Rattle.keys.specs.Exact.{TwiceIsExact};
 
-pub mod laps;
 mod marks;
-pub mod parts;
 mod slots;
-pub mod wide;
 
 // The first place of a key, or the column's length where it has none.
 pub fn find(keys: &[u32], key: u16) -> usize

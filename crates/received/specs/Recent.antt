@@ -5,7 +5,7 @@ use mathlib.Core.List.{List}
 use Prim.Native.Nat.{ℕ, _+_, _-_, _%_, _≤_}
 use lib.Dec.{ltb}
 use lib.ListN.{length, getD}
-use Rattle.keys.specs.Laps.{Lapped}
+use Rattle.key_parts.specs.Laps.{Lapped}
 use Rattle.received.specs.Record.{slotCount}
 
 -- a record in laps whose newest number stands in its slot, with 32 numbers below it

@@ -4,7 +4,7 @@ use mathlib.Core.Bool.{Bool, true}
 use mathlib.Core.List.{List, _++_}
 use Prim.Native.Nat.{ℕ}
 use lib.ListN.{take, drop}
-use Rattle.keys.specs.Laps.{Lapped}
+use Rattle.key_parts.specs.Laps.{Lapped}
 use Rattle.sequence_buffer.specs.Buffer.{insertedSlots}
 
 -- "33 slots"

@@ -1,4 +1,4 @@
--- What `keys::laps` says of the part that is lent to it.
+-- What `key_parts::laps` says of the part that is lent to it.
 use Rattle.acks.proofs.home.is_lapped.Statement.{statement}
 use Rattle.acks.proofs.home.is_lapped.Tie as tie
 use mathlib.Core.Path.{sym}

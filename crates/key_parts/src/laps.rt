@@ -4,8 +4,8 @@ ghost use mathlib.Core.Path.{_≡_};
 ghost use mathlib.Core.Bool.{true, false};
 ghost use Prim.Native.Nat.{_%_, _<_};
 ghost use lib.ListN.{length};
 ghost use Rattle.keys.specs.Keys.{twice};
-ghost use Rattle.keys.specs.Laps.{InLap, Lapped};
+ghost use Rattle.key_parts.specs.Laps.{InLap, Lapped};
 
 // Each entry is seen against the first one, from 15 laps of 33 before it to 16 after it. Then no key stands twice. A `false`
 // says nothing. Requires 33 entries.

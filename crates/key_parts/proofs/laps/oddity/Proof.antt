@@ -1,10 +1,10 @@
 -- Where the word and its fifth shift differ in no low bit and in no high one, it is 33 times the shift.
 use borrow.Author.Needs.{needs}
-use Rattle.keys.proofs.laps.oddity.Statement.{statement}
-use Rattle.keys.proofs.laps.oddity.Tie as tie
+use Rattle.key_parts.proofs.laps.oddity.Statement.{statement}
+use Rattle.key_parts.proofs.laps.oddity.Tie as tie
 use Prim.Native.Nat.{_/_}
 use native.Mathlib.Omega.{arith}
-use Rattle.keys.proofs.Lapped.{laps-of}
+use Rattle.key_parts.proofs.Lapped.{laps-of}
 
 wrapping-sub-u32-requires : tie.Need-wrapping-sub-u32-requires
 wrapping-sub-u32-requires c κs = search needs

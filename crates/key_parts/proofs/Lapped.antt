@@ -14,9 +14,9 @@ use lib.Bits.{bitOr, bitXor, or-add-and, and-le-l, and-le-r, or-mod, xor-mod, xo
 use lib.ListN.{length, getD}
 use Rattle.laws.proofs.Bits.{xor-none}
 use Rattle.laws.proofs.Cases.{lt-or-le}
 use Rattle.keys.specs.Keys.{twice}
-use Rattle.keys.specs.Laps.{InLap, Lapped}
+use Rattle.key_parts.specs.Laps.{InLap, Lapped}
 use Rattle.keys.proofs.Twice.{all-apart}
 
 pub or-parts : (a b : ℕ) → bitOr a b % 32 ≡ 0 → bitOr a b < 1024 → ((a % 32 ≡ 0) × (a < 1024)) × ((b % 32 ≡ 0) × (b < 1024))
 or-parts a b e h =

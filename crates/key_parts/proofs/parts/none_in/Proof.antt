@@ -1,7 +1,7 @@
 -- What is left of the bits is at most each entry passed.
 use borrow.Author.Needs.{needs}
-use Rattle.keys.proofs.parts.none_in.Statement.{statement}
-use Rattle.keys.proofs.parts.none_in.Tie as tie
+use Rattle.key_parts.proofs.parts.none_in.Statement.{statement}
+use Rattle.key_parts.proofs.parts.none_in.Tie as tie
 use native.Mathlib.Nat.{not-suc-le-zero}
 use native.Mathlib.Omega.{arith}
 use Prim.Native.Nat.{ℕ, _+_, _-_, _≤_, _<_}

@@ -1,8 +1,8 @@
 -- Numbers below 65,536 differ by one below it, and one less is not below it only where they do not differ. A multiple of 64
 -- and a place below 64 have no bit in common.
 use borrow.Author.Needs.{needs}
-use Rattle.keys.proofs.wide.without.Statement.{statement}
-use Rattle.keys.proofs.wide.without.Tie as tie
+use Rattle.key_parts.proofs.wide.without.Statement.{statement}
+use Rattle.key_parts.proofs.wide.without.Tie as tie
 use mathlib.Core.Path.{_≡_, sym, ap, ap₂, _∙_}
 use Prim.Native.Nat.{ℕ, _+_, _*_, _/_, _%_, _<_}
 use native.Mathlib.Nat.{zero-add, mod-lt, div-add-mod'}

@@ -1,7 +1,7 @@
 -- Where the bits left are no key, neither is what was kept of any entry passed.
 use borrow.Author.Needs.{needs}
-use Rattle.keys.proofs.parts.in_step.Statement.{statement}
-use Rattle.keys.proofs.parts.in_step.Tie as tie
+use Rattle.key_parts.proofs.parts.in_step.Statement.{statement}
+use Rattle.key_parts.proofs.parts.in_step.Tie as tie
 use native.Mathlib.Nat.{not-suc-le-zero}
 use native.Mathlib.Omega.{arith}
 use Prim.Native.Nat.{ℕ, _+_, _-_, _≤_, _<_}

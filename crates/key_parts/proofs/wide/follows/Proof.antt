@@ -1,7 +1,7 @@
 -- Where the bits left are no key, neither is what was kept of any entry passed.
 use borrow.Author.Needs.{needs}
-use Rattle.keys.proofs.wide.follows.Statement.{statement}
-use Rattle.keys.proofs.wide.follows.Tie as tie
+use Rattle.key_parts.proofs.wide.follows.Statement.{statement}
+use Rattle.key_parts.proofs.wide.follows.Tie as tie
 use mathlib.Core.Path.{_≡_}
 use native.Mathlib.Nat.{not-suc-le-zero}
 use native.Mathlib.Omega.{arith}

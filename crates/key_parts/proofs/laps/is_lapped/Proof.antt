@@ -1,7 +1,7 @@
 -- Where what is odd of all the entries passed is nothing, so it is of each.
 use borrow.Author.Needs.{needs}
-use Rattle.keys.proofs.laps.is_lapped.Statement.{statement}
-use Rattle.keys.proofs.laps.is_lapped.Tie as tie
+use Rattle.key_parts.proofs.laps.is_lapped.Statement.{statement}
+use Rattle.key_parts.proofs.laps.is_lapped.Tie as tie
 use mathlib.Core.Path.{_≡_, sym, subst}
 use mathlib.Core.Bool.{true}
 use Prim.Native.Nat.{ℕ, _+_, _-_, _%_, _≤_, _<_}
@@ -11,8 +11,8 @@ use lib.Dec.{ltb}
 use denote.Ref.{now}
 use borrow.Author.Count.{below-more}
 use borrow.Author.Tests.{ltb-true, eqb-true}
-use Rattle.keys.specs.Laps.{InLap, Lapped}
-use Rattle.keys.proofs.Lapped.{or-parts, lapped, lapped-once}
+use Rattle.key_parts.specs.Laps.{InLap, Lapped}
+use Rattle.key_parts.proofs.Lapped.{or-parts, lapped, lapped-once}
 
 abbrev Inv-loop : tie.InvT-loop
 Inv-loop keys shift odd₀ k₀ odd k = (k ≤ 33) × ((j : ℕ) → j < k → odd % 32 ≡ 0 → odd < 1024 → InLap j ((getD keys j 0 + shift) % 4294967296))

@@ -1,6 +1,6 @@
 -- Each way out is a case.
-use Rattle.keys.proofs.parts.unless.Statement.{statement}
-use Rattle.keys.proofs.parts.unless.Tie as tie
+use Rattle.key_parts.proofs.parts.unless.Statement.{statement}
+use Rattle.key_parts.proofs.parts.unless.Tie as tie
 use mathlib.Core.Logic.{inl, inr}
 use native.Mathlib.Omega.{arith}
 
