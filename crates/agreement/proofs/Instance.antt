@@ -44,7 +44,7 @@ use Rattle.packet_table.specs.declared.DeliveryGuarantee.{DeliveryGuarantee}
 use Rattle.packet_table.specs.declared.DeliveryGuarantee.the-variants.{Unreliable, Reliable}
 use Rattle.packet_table.specs.declared.OrderingGuarantee.{OrderingGuarantee}
 use Rattle.packet_table.specs.declared.OrderingGuarantee.the-variants.{None, Sequenced, Ordered}
-use Rattle.packet_laws.proofs.Laws.{accepted}
+use Rattle.packet.proofs.Accepted.{accepted}
 use Rattle.packet_laws.proofs.Parsed.{standard-parsed}
 use Rattle.ordering_plan.specs.State.{fresh}
 use Rattle.ordering_plan.specs.declared.OrderingStream.{OrderingStream}

@@ -25,7 +25,8 @@ use Rattle.packet_table.proofs.Lengths.{datagram-length}
 use Rattle.packet_laws.proofs.Parsed.{StandardParsed, standard-parsed, fragment-parsed, acked-parsed, arranging-parsed}
 use Rattle.packet_laws.proofs.Reprinted.{standard-again, fragment-again, acked-again, arranging-again, fragment-fits, acked-fits, arranging-fits}
 use Rattle.packet_table.proofs.Width.{fits-width}
-use Rattle.packet_laws.proofs.Laws.{Accepted, Known, known-means, foundIn, accepted, within, reads-as, known-is, fit-same, built, told}
+use Rattle.packet.proofs.Accepted.{Accepted, Known, known-means, foundIn, accepted, within, reads-as, known-is}
+use Rattle.packet_laws.proofs.Laws.{fit-same, built, told}
 
 -- the id is consulted of a fragment alone
 acked-same : (f : Following) (x : FragmentHeader) → hasAcked f (cond (hasFragment f) x noFragment .id) ≡ hasAcked f (x .id)

@@ -11,7 +11,7 @@ use Rattle.terms.specs.declared.Refusal.the-variants.{TooLong}
 use Rattle.packet.specs.Read.{readOf}
 use Rattle.packet.specs.declared.Read.the-variants.{Found}
 use Rattle.packet_table.specs.declared.PacketType.the-variants.{Packet, Fragment, Heartbeat as IsHeartbeat}
-use Rattle.packet_laws.proofs.Laws.{within}
+use Rattle.packet.proofs.Accepted.{within}
 use Rattle.ends.specs.State.{State, lending}
 use Rattle.ends.proofs.Opened.{Opened, opened}
 use Rattle.receiving_plan.specs.declared.Answer.the-variants.{Refused, Heartbeat}
