@@ -1,16 +1,8 @@
 // Replays a script over the port: reads its fields on standard input and prints one line for each, to the end of the
 // script or to the first field that is none, which prints `bad`. laminar's lines for the same script are the same.
-// Read the crate `script` for the form of a field, then the operations in question: `connection` here, or those of the
-// single modules in the crate `replay_modules`. A field goes through all of them, and each leaves those of others alone.
-mod arrivals;
-mod calls;
-mod connection;
-mod departures;
-mod log;
-mod losses;
-mod tables;
-
-use calls::Connection;
+// Read the crate `script` for the form of a field, then the operations in question: those of the connections in the crate
+// `replay_connection`, those of the single modules in `replay_modules`. A field goes through all of them, and each leaves those of others alone.
+use replay_calls::Connection;
 use replay_modules::Modules;
 use script::Field;
 use script::Said;
@@ -204,8 +196,8 @@ fn turn(
 
 fn no_ends() -> Ends {
     Ends {
-        end0: calls::none(),
-        end1: calls::none(),
+        end0: replay_calls::none(),
+        end1: replay_calls::none(),
         said: Said::Nothing,
     }
 }
@@ -226,7 +218,7 @@ fn answer_ends(
     output: &mut [u8],
     said: Said,
 ) -> Ends {
-    let first = connection::step(
+    let first = replay_connection::step(
         before.end0,
         0,
         field,
@@ -243,7 +235,7 @@ fn answer_ends(
     );
     let end0 = first.connection;
     let said = first.said;
-    let second = connection::step(
+    let second = replay_connection::step(
         before.end1,
         1,
         field,

@@ -1,11 +1,10 @@
 // The operations of the single modules in a script: tags below 70. A module of operations has a `step`, which does nothing
 // where the tag is not its own: a field goes through them all. Only the program `replay` uses this crate.
-pub mod ack;
-pub mod buffer;
-pub mod fragments;
-pub mod ordered;
-pub mod sequenced;
-
+use replay_items::fragments;
+use replay_items::ordered;
+use replay_items::sequenced;
+use replay_packets::ack;
+use replay_packets::buffer;
 use script::Field;
 use script::Said;
 use script::print;
