@@ -1,12 +1,14 @@
 -- The run, computed: every definition that is met is opened. Assumes nothing.
-use mathlib.Core.Path.{_≡_, refl}
-use mathlib.Core.Bool.{true}
+use Prim.Native.Nat.{ℕ}
+use mathlib.Core.Path.{_≡_, refl, ap}
+use mathlib.Core.List.{List}
+use mathlib.Core.Option.{Option, some, Option·some-injective}
 use lib.ListN.{getD}
 use Rattle.receiving_plan.specs.Plan.{numberOfAnswer}
 use Rattle.link_incoming.specs.Calls.{receiveOf}
 use Rattle.ends.specs.State.{freshEnd}
 use Rattle.link_laws.specs.Never.{New}
-use Rattle.agreement.specs.World.{start, latest, noCopy}
+use Rattle.agreement.specs.World.{World, start, latest, noCopy}
 use Rattle.laws.specs.Bits.{bitsBelow as u1}
 use Rattle.terms.specs.Sizes.{between as u2, inRange as u3}
 use Rattle.keys.specs.Keys.{firstPlace as u4, occurs as u5, twice as u6}
@@ -59,34 +61,36 @@ use Rattle.link.specs.Calls.{newOf as u122, dropOf as u129, reportOf as u130}
 use Rattle.link_laws.specs.Calls.{numberOfCall as u131, called as u132, after as u133}
 use Rattle.agreement_setting.specs.Setting.{sizes, pair, lent, out, payloads}
 use Rattle.agreement_filling.specs.Filling.{filling, filled, emptying, emptied, Fills}
-use Rattle.agreement_setting.proofs.May.{maysB, mays-ok}
+use Rattle.agreement_setting.proofs.May.{traced, traced-ok}
 
 fresh-is : New sizes (lent freshEnd) out
 unfolding u1 u2 u3 u4 u5 u6 u7 u8 u9 u10 u11 u12 u13 u14 u15 u16 u17 u18 u19 u20 u21 u22 u23 u24 u25 u26 u27 u28 u29 u30 u31 u32 u33 u34 u35 u36 u37 u38 u39 u40 u41 u42 u43 u44 u45 u46 u47 u48 u49 u50 u51 u52 u53 u54 u55 u56 u57 u58 u59 u60 u61 u62 u63 u64 u65 u66 u67 u68 u69 u70 u71 u72 u73 u74 u75 u76 u77 u78 u79 u80 u81 u82 u83 u84 u85 u86 u87 u88 u89 u90 u91 u92 u93 u94 u95 u96 u97 u98 u99 u100 u101 u102 u103 u104 u105 u106 u107 u108 u109 u110 u111 u112 u113 u114 u115 u116 u117 u118 u119 u120 u121 u122 u123 u124 u125 u126 u127 u128 u129 u130 u131 u132 u133
 fresh-is = record { sizes = refl; storage = refl; counters = refl; none-received = refl; none-in-flight = refl; no-message = refl }
 
-filled-is : numberOfAnswer (receiveOf sizes (filled .receiver) (getD (filled .line) 0 noCopy .datagram) out .answer) ≡ 6
-unfolding filling filled latest u1 u2 u3 u4 u5 u6 u7 u8 u9 u10 u11 u12 u13 u14 u15 u16 u17 u18 u19 u20 u21 u22 u23 u24 u25 u26 u27 u28 u29 u30 u31 u32 u33 u34 u35 u36 u37 u38 u39 u40 u41 u42 u43 u44 u45 u46 u47 u48 u49 u50 u51 u52 u53 u54 u55 u56 u57 u58 u59 u60 u61 u62 u63 u64 u65 u66 u67 u68 u69 u70 u71 u72 u73 u74 u75 u76 u77 u78 u79 u80 u81 u82 u83 u84 u85 u86 u87 u88 u89 u90 u91 u92 u93 u94 u95 u96 u97 u98 u99 u100 u101 u102 u103 u104 u105 u106 u107 u108 u109 u110 u111 u112 u113 u114 u115 u116 u117 u118 u119 u120 u121 u122 u123 u124 u125 u126 u127 u128 u129 u130 u131 u132 u133
-filled-is = refl
+-- the number that item 65 is told, and in the end what was handed out
+abbrev told : World → ℕ
+told w = numberOfAnswer (receiveOf sizes (w .receiver) (getD (w .line) 0 noCopy .datagram) out .answer)
 
-emptied-is : emptied .handed ≡ payloads 66 0
-unfolding filling filled emptying emptied latest u1 u2 u3 u4 u5 u6 u7 u8 u9 u10 u11 u12 u13 u14 u15 u16 u17 u18 u19 u20 u21 u22 u23 u24 u25 u26 u27 u28 u29 u30 u31 u32 u33 u34 u35 u36 u37 u38 u39 u40 u41 u42 u43 u44 u45 u46 u47 u48 u49 u50 u51 u52 u53 u54 u55 u56 u57 u58 u59 u60 u61 u62 u63 u64 u65 u66 u67 u68 u69 u70 u71 u72 u73 u74 u75 u76 u77 u78 u79 u80 u81 u82 u83 u84 u85 u86 u87 u88 u89 u90 u91 u92 u93 u94 u95 u96 u97 u98 u99 u100 u101 u102 u103 u104 u105 u106 u107 u108 u109 u110 u111 u112 u113 u114 u115 u116 u117 u118 u119 u120 u121 u122 u123 u124 u125 u126 u127 u128 u129 u130 u131 u132 u133
-emptied-is = refl
+abbrev ending : World → World → Option (ℕ × List (List ℕ))
+ending full w = some (told full, w .handed)
 
-filling-test : maysB pair (start (lent freshEnd) (lent freshEnd)) filling ≡ true
-unfolding filling latest u1 u2 u3 u4 u5 u6 u7 u8 u9 u10 u11 u12 u13 u14 u15 u16 u17 u18 u19 u20 u21 u22 u23 u24 u25 u26 u27 u28 u29 u30 u31 u32 u33 u34 u35 u36 u37 u38 u39 u40 u41 u42 u43 u44 u45 u46 u47 u48 u49 u50 u51 u52 u53 u54 u55 u56 u57 u58 u59 u60 u61 u62 u63 u64 u65 u66 u67 u68 u69 u70 u71 u72 u73 u74 u75 u76 u77 u78 u79 u80 u81 u82 u83 u84 u85 u86 u87 u88 u89 u90 u91 u92 u93 u94 u95 u96 u97 u98 u99 u100 u101 u102 u103 u104 u105 u106 u107 u108 u109 u110 u111 u112 u113 u114 u115 u116 u117 u118 u119 u120 u121 u122 u123 u124 u125 u126 u127 u128 u129 u130 u131 u132 u133
-filling-test = refl
+abbrev going : World → Option (ℕ × List (List ℕ))
+going full = traced pair full emptying (ending full)
 
-emptying-test : maysB pair filled emptying ≡ true
-unfolding filling filled emptying latest u1 u2 u3 u4 u5 u6 u7 u8 u9 u10 u11 u12 u13 u14 u15 u16 u17 u18 u19 u20 u21 u22 u23 u24 u25 u26 u27 u28 u29 u30 u31 u32 u33 u34 u35 u36 u37 u38 u39 u40 u41 u42 u43 u44 u45 u46 u47 u48 u49 u50 u51 u52 u53 u54 u55 u56 u57 u58 u59 u60 u61 u62 u63 u64 u65 u66 u67 u68 u69 u70 u71 u72 u73 u74 u75 u76 u77 u78 u79 u80 u81 u82 u83 u84 u85 u86 u87 u88 u89 u90 u91 u92 u93 u94 u95 u96 u97 u98 u99 u100 u101 u102 u103 u104 u105 u106 u107 u108 u109 u110 u111 u112 u113 u114 u115 u116 u117 u118 u119 u120 u121 u122 u123 u124 u125 u126 u127 u128 u129 u130 u131 u132 u133
-emptying-test = refl
+computed : traced pair (start (lent freshEnd) (lent freshEnd)) filling going ≡ some (6, payloads 66 0)
+unfolding filling emptying latest u1 u2 u3 u4 u5 u6 u7 u8 u9 u10 u11 u12 u13 u14 u15 u16 u17 u18 u19 u20 u21 u22 u23 u24 u25 u26 u27 u28 u29 u30 u31 u32 u33 u34 u35 u36 u37 u38 u39 u40 u41 u42 u43 u44 u45 u46 u47 u48 u49 u50 u51 u52 u53 u54 u55 u56 u57 u58 u59 u60 u61 u62 u63 u64 u65 u66 u67 u68 u69 u70 u71 u72 u73 u74 u75 u76 u77 u78 u79 u80 u81 u82 u83 u84 u85 u86 u87 u88 u89 u90 u91 u92 u93 u94 u95 u96 u97 u98 u99 u100 u101 u102 u103 u104 u105 u106 u107 u108 u109 u110 u111 u112 u113 u114 u115 u116 u117 u118 u119 u120 u121 u122 u123 u124 u125 u126 u127 u128 u129 u130 u131 u132 u133
+computed = refl
 
 pub fills : Fills
+unfolding filled emptied
 fills =
+    let full = traced-ok pair (start (lent freshEnd) (lent freshEnd)) filling going (6, payloads 66 0) computed in
+    let empty = traced-ok pair filled emptying (ending filled) (6, payloads 66 0) (full .1) in
+    let result = Option·some-injective (told filled, emptied .handed) (6, payloads 66 0) (empty .1) in
     record {
       fresh-ends = fresh-is;
-      filling-may = mays-ok pair (start (lent freshEnd) (lent freshEnd)) filling filling-test;
-      emptying-may = mays-ok pair filled emptying emptying-test;
-      filled-told = filled-is;
-      emptied-handed = emptied-is;
+      filling-may = full .0;
+      emptying-may = empty .0;
+      filled-told = ap (λ (r : ℕ × List (List ℕ)). r .0) result;
+      emptied-handed = ap (λ (r : ℕ × List (List ℕ)). r .1) result;
     }

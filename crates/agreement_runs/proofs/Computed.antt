@@ -1,9 +1,13 @@
 -- The runs, computed: every definition that is met is opened. Assumes nothing.
+use Prim.Native.Nat.{ℕ}
 use mathlib.Core.Path.{_≡_, refl}
-use mathlib.Core.Bool.{true}
+use mathlib.Core.List.{List}
+use mathlib.Core.Option.{Option, some, Option·some-injective}
 use Rattle.ends.specs.State.{freshEnd}
+use Rattle.ends.specs.declared.End.{End}
 use Rattle.link_laws.specs.Never.{New}
-use Rattle.agreement.specs.World.{start, latest}
+use Rattle.agreement.specs.Agreement.{Mays}
+use Rattle.agreement.specs.World.{World, start, latest}
 use Rattle.laws.specs.Bits.{bitsBelow as u1}
 use Rattle.terms.specs.Sizes.{between as u2, inRange as u3}
 use Rattle.keys.specs.Keys.{firstPlace as u4, occurs as u5, twice as u6}
@@ -56,44 +60,46 @@ use Rattle.link.specs.Calls.{newOf as u122, dropOf as u129, reportOf as u130}
 use Rattle.link_laws.specs.Calls.{numberOfCall as u131, called as u132, after as u133}
 use Rattle.agreement_setting.specs.Setting.{sizes, pair, lent, out, payloads}
 use Rattle.agreement_runs.specs.Runs.{losing, lostFrom, toldBy, resending, resentFrom, later, Runs}
-use Rattle.agreement_setting.proofs.May.{maysB, mays-ok}
+use Rattle.agreement_setting.proofs.May.{traced, traced-ok}
 
 fresh-is : New sizes (lent freshEnd) out
 unfolding u1 u2 u3 u4 u5 u6 u7 u8 u9 u10 u11 u12 u13 u14 u15 u16 u17 u18 u19 u20 u21 u22 u23 u24 u25 u26 u27 u28 u29 u30 u31 u32 u33 u34 u35 u36 u37 u38 u39 u40 u41 u42 u43 u44 u45 u46 u47 u48 u49 u50 u51 u52 u53 u54 u55 u56 u57 u58 u59 u60 u61 u62 u63 u64 u65 u66 u67 u68 u69 u70 u71 u72 u73 u74 u75 u76 u77 u78 u79 u80 u81 u82 u83 u84 u85 u86 u87 u88 u89 u90 u91 u92 u93 u94 u95 u96 u97 u98 u99 u100 u101 u102 u103 u104 u105 u106 u107 u108 u109 u110 u111 u112 u113 u114 u115 u116 u117 u118 u119 u120 u121 u122 u123 u124 u125 u126 u127 u128 u129 u130 u131 u132 u133
 fresh-is = record { sizes = refl; storage = refl; counters = refl; none-received = refl; none-in-flight = refl; no-message = refl }
 
-resent-is : resentFrom freshEnd .handed ≡ payloads 40 0
-unfolding losing lostFrom toldBy resending resentFrom latest u1 u2 u3 u4 u5 u6 u7 u8 u9 u10 u11 u12 u13 u14 u15 u16 u17 u18 u19 u20 u21 u22 u23 u24 u25 u26 u27 u28 u29 u30 u31 u32 u33 u34 u35 u36 u37 u38 u39 u40 u41 u42 u43 u44 u45 u46 u47 u48 u49 u50 u51 u52 u53 u54 u55 u56 u57 u58 u59 u60 u61 u62 u63 u64 u65 u66 u67 u68 u69 u70 u71 u72 u73 u74 u75 u76 u77 u78 u79 u80 u81 u82 u83 u84 u85 u86 u87 u88 u89 u90 u91 u92 u93 u94 u95 u96 u97 u98 u99 u100 u101 u102 u103 u104 u105 u106 u107 u108 u109 u110 u111 u112 u113 u114 u115 u116 u117 u118 u119 u120 u121 u122 u123 u124 u125 u126 u127 u128 u129 u130 u131 u132 u133
+-- what was handed out in the end
+abbrev ending : World → Option (List (List ℕ))
+ending w = some (w .handed)
+
+abbrev going : World → Option (List (List ℕ))
+going w = traced pair w (resending w) ending
+
+resent-is : traced pair (start (lent freshEnd) (lent freshEnd)) losing going ≡ some (payloads 40 0)
+unfolding losing toldBy resending latest u1 u2 u3 u4 u5 u6 u7 u8 u9 u10 u11 u12 u13 u14 u15 u16 u17 u18 u19 u20 u21 u22 u23 u24 u25 u26 u27 u28 u29 u30 u31 u32 u33 u34 u35 u36 u37 u38 u39 u40 u41 u42 u43 u44 u45 u46 u47 u48 u49 u50 u51 u52 u53 u54 u55 u56 u57 u58 u59 u60 u61 u62 u63 u64 u65 u66 u67 u68 u69 u70 u71 u72 u73 u74 u75 u76 u77 u78 u79 u80 u81 u82 u83 u84 u85 u86 u87 u88 u89 u90 u91 u92 u93 u94 u95 u96 u97 u98 u99 u100 u101 u102 u103 u104 u105 u106 u107 u108 u109 u110 u111 u112 u113 u114 u115 u116 u117 u118 u119 u120 u121 u122 u123 u124 u125 u126 u127 u128 u129 u130 u131 u132 u133
 resent-is = refl
 
-crossed-is : resentFrom later .handed ≡ payloads 40 0
-unfolding losing lostFrom toldBy resending resentFrom latest u1 u2 u3 u4 u5 u6 u7 u8 u9 u10 u11 u12 u13 u14 u15 u16 u17 u18 u19 u20 u21 u22 u23 u24 u25 u26 u27 u28 u29 u30 u31 u32 u33 u34 u35 u36 u37 u38 u39 u40 u41 u42 u43 u44 u45 u46 u47 u48 u49 u50 u51 u52 u53 u54 u55 u56 u57 u58 u59 u60 u61 u62 u63 u64 u65 u66 u67 u68 u69 u70 u71 u72 u73 u74 u75 u76 u77 u78 u79 u80 u81 u82 u83 u84 u85 u86 u87 u88 u89 u90 u91 u92 u93 u94 u95 u96 u97 u98 u99 u100 u101 u102 u103 u104 u105 u106 u107 u108 u109 u110 u111 u112 u113 u114 u115 u116 u117 u118 u119 u120 u121 u122 u123 u124 u125 u126 u127 u128 u129 u130 u131 u132 u133
+crossed-is : traced pair (start (lent later) (lent later)) losing going ≡ some (payloads 40 0)
+unfolding losing toldBy resending latest u1 u2 u3 u4 u5 u6 u7 u8 u9 u10 u11 u12 u13 u14 u15 u16 u17 u18 u19 u20 u21 u22 u23 u24 u25 u26 u27 u28 u29 u30 u31 u32 u33 u34 u35 u36 u37 u38 u39 u40 u41 u42 u43 u44 u45 u46 u47 u48 u49 u50 u51 u52 u53 u54 u55 u56 u57 u58 u59 u60 u61 u62 u63 u64 u65 u66 u67 u68 u69 u70 u71 u72 u73 u74 u75 u76 u77 u78 u79 u80 u81 u82 u83 u84 u85 u86 u87 u88 u89 u90 u91 u92 u93 u94 u95 u96 u97 u98 u99 u100 u101 u102 u103 u104 u105 u106 u107 u108 u109 u110 u111 u112 u113 u114 u115 u116 u117 u118 u119 u120 u121 u122 u123 u124 u125 u126 u127 u128 u129 u130 u131 u132 u133
 crossed-is = refl
 
-losing-test : maysB pair (start (lent freshEnd) (lent freshEnd)) losing ≡ true
-unfolding losing latest u1 u2 u3 u4 u5 u6 u7 u8 u9 u10 u11 u12 u13 u14 u15 u16 u17 u18 u19 u20 u21 u22 u23 u24 u25 u26 u27 u28 u29 u30 u31 u32 u33 u34 u35 u36 u37 u38 u39 u40 u41 u42 u43 u44 u45 u46 u47 u48 u49 u50 u51 u52 u53 u54 u55 u56 u57 u58 u59 u60 u61 u62 u63 u64 u65 u66 u67 u68 u69 u70 u71 u72 u73 u74 u75 u76 u77 u78 u79 u80 u81 u82 u83 u84 u85 u86 u87 u88 u89 u90 u91 u92 u93 u94 u95 u96 u97 u98 u99 u100 u101 u102 u103 u104 u105 u106 u107 u108 u109 u110 u111 u112 u113 u114 u115 u116 u117 u118 u119 u120 u121 u122 u123 u124 u125 u126 u127 u128 u129 u130 u131 u132 u133
-losing-test = refl
-
-resending-test : maysB pair (lostFrom freshEnd) (resending (lostFrom freshEnd)) ≡ true
-unfolding losing lostFrom toldBy resending latest u1 u2 u3 u4 u5 u6 u7 u8 u9 u10 u11 u12 u13 u14 u15 u16 u17 u18 u19 u20 u21 u22 u23 u24 u25 u26 u27 u28 u29 u30 u31 u32 u33 u34 u35 u36 u37 u38 u39 u40 u41 u42 u43 u44 u45 u46 u47 u48 u49 u50 u51 u52 u53 u54 u55 u56 u57 u58 u59 u60 u61 u62 u63 u64 u65 u66 u67 u68 u69 u70 u71 u72 u73 u74 u75 u76 u77 u78 u79 u80 u81 u82 u83 u84 u85 u86 u87 u88 u89 u90 u91 u92 u93 u94 u95 u96 u97 u98 u99 u100 u101 u102 u103 u104 u105 u106 u107 u108 u109 u110 u111 u112 u113 u114 u115 u116 u117 u118 u119 u120 u121 u122 u123 u124 u125 u126 u127 u128 u129 u130 u131 u132 u133
-resending-test = refl
-
-crossing-test : maysB pair (start (lent later) (lent later)) losing ≡ true
-unfolding losing latest u1 u2 u3 u4 u5 u6 u7 u8 u9 u10 u11 u12 u13 u14 u15 u16 u17 u18 u19 u20 u21 u22 u23 u24 u25 u26 u27 u28 u29 u30 u31 u32 u33 u34 u35 u36 u37 u38 u39 u40 u41 u42 u43 u44 u45 u46 u47 u48 u49 u50 u51 u52 u53 u54 u55 u56 u57 u58 u59 u60 u61 u62 u63 u64 u65 u66 u67 u68 u69 u70 u71 u72 u73 u74 u75 u76 u77 u78 u79 u80 u81 u82 u83 u84 u85 u86 u87 u88 u89 u90 u91 u92 u93 u94 u95 u96 u97 u98 u99 u100 u101 u102 u103 u104 u105 u106 u107 u108 u109 u110 u111 u112 u113 u114 u115 u116 u117 u118 u119 u120 u121 u122 u123 u124 u125 u126 u127 u128 u129 u130 u131 u132 u133
-crossing-test = refl
-
-crossing-again-test : maysB pair (lostFrom later) (resending (lostFrom later)) ≡ true
-unfolding losing lostFrom toldBy resending latest u1 u2 u3 u4 u5 u6 u7 u8 u9 u10 u11 u12 u13 u14 u15 u16 u17 u18 u19 u20 u21 u22 u23 u24 u25 u26 u27 u28 u29 u30 u31 u32 u33 u34 u35 u36 u37 u38 u39 u40 u41 u42 u43 u44 u45 u46 u47 u48 u49 u50 u51 u52 u53 u54 u55 u56 u57 u58 u59 u60 u61 u62 u63 u64 u65 u66 u67 u68 u69 u70 u71 u72 u73 u74 u75 u76 u77 u78 u79 u80 u81 u82 u83 u84 u85 u86 u87 u88 u89 u90 u91 u92 u93 u94 u95 u96 u97 u98 u99 u100 u101 u102 u103 u104 u105 u106 u107 u108 u109 u110 u111 u112 u113 u114 u115 u116 u117 u118 u119 u120 u121 u122 u123 u124 u125 u126 u127 u128 u129 u130 u131 u132 u133
-crossing-again-test = refl
+-- what one such computation says of a run from two like ends
+told : (end : End) → traced pair (start (lent end) (lent end)) losing going ≡ some (payloads 40 0)
+    → Mays pair (start (lent end) (lent end)) losing × Mays pair (lostFrom end) (resending (lostFrom end)) × (resentFrom end .handed ≡ payloads 40 0)
+unfolding lostFrom resentFrom
+told end h =
+    let lost = traced-ok pair (start (lent end) (lent end)) losing going (payloads 40 0) h in
+    let again = traced-ok pair (lostFrom end) (resending (lostFrom end)) ending (payloads 40 0) (lost .1) in
+    (lost .0, again .0, Option·some-injective (resentFrom end .handed) (payloads 40 0) (again .1))
 
 pub runs : Runs
 runs =
+    let resent = told freshEnd resent-is in
+    let crossed = told later crossed-is in
     record {
       fresh-ends = fresh-is;
-      losing-may = mays-ok pair (start (lent freshEnd) (lent freshEnd)) losing losing-test;
-      resending-may = mays-ok pair (lostFrom freshEnd) (resending (lostFrom freshEnd)) resending-test;
-      resent-handed = resent-is;
-      crossing-may = mays-ok pair (start (lent later) (lent later)) losing crossing-test;
-      crossing-again-may = mays-ok pair (lostFrom later) (resending (lostFrom later)) crossing-again-test;
-      crossed-handed = crossed-is;
+      losing-may = resent .0;
+      resending-may = resent .1;
+      resent-handed = resent .2;
+      crossing-may = crossed .0;
+      crossing-again-may = crossed .1;
+      crossed-handed = crossed .2;
     }

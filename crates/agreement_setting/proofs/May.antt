@@ -1,9 +1,9 @@
 -- What may happen, as a test. Assumes nothing.
 use Prim.Native.Nat.{ℕ, zero, suc, _+_, _*_, _≤_, _<_}
 use mathlib.Core.Path.{_≡_, refl}
-use mathlib.Core.Bool.{Bool, true, false, _&&_}
+use mathlib.Core.Bool.{Bool, true, false, cond, _&&_}
 use mathlib.Core.List.{List, [], _∷_}
-use mathlib.Core.Option.{Option, none, some}
+use mathlib.Core.Option.{Option, none, some, Option·none-ne-some}
 use native.Mathlib.Nat.{le-of-suc-le-suc, not-suc-le-zero}
 use borrow.Author.Tests.{leb-true, ltb-true}
 use lib.Dec.{T, leb, ltb}
@@ -13,7 +13,7 @@ use Rattle.terms.specs.declared.Sizes.{Sizes}
 use Rattle.packet_table.specs.Numbers.{Bytes}
 use Rattle.link_laws.specs.Calls.{Call, receives, takes as takesOn, sends as sendsOn, resends as resendsOn, writes as writesOn, drops as dropsOn, asks}
 use Rattle.agreement.specs.World.{Pair, World, noCopy}
-use Rattle.agreement.specs.Events.{Event, sends, resends, drops, writes, hears, collects, arrives, takes, others, step}
+use Rattle.agreement.specs.Events.{Event, sends, resends, drops, writes, hears, collects, arrives, takes, others, step, run}
 use Rattle.agreement.specs.Agreement.{Lent, Window, Waited, Beside, May, Mays}
 
 abbrev lentB : Sizes → List ℕ → Bool
@@ -101,10 +101,19 @@ may-ok l w (arrives j output) h =
 may-ok l w (takes output) h = lent-ok (l .receiving) output h
 may-ok l w (others call) h = beside-ok (l .receiving) (l .stream) call h
 
-abbrev pub maysB : Pair → World → List Event → Bool
-maysB l w [] = true
-maysB l w (v ∷ vs) = mayB l w v && maysB l (step l w v) vs
+-- a run and what is asked of its end, in one computation: none where something may not happen
+abbrev pub traced : {A : Type 0} → Pair → World → List Event → (World → Option A) → Option A
+traced l w [] ask = ask w
+traced l w (v ∷ vs) ask = cond (mayB l w v) (traced l (step l w v) vs ask) none
 
-pub mays-ok : (l : Pair) (w : World) (es : List Event) → maysB l w es ≡ true → Mays l w es
-mays-ok l w [] h = tt
-mays-ok l w (v ∷ vs) h = let q = each (mayB l w v) (maysB l (step l w v) vs) h in (may-ok l w v (q .0), mays-ok l (step l w v) vs (q .1))
+here : {A : Type 0} (b : Bool) (o : Option A) (a : A) → cond b o none ≡ some a → (b ≡ true) × (o ≡ some a)
+here true o a h = (refl, h)
+here false o a h = absurd (Option·none-ne-some a h)
+
+pub traced-ok : {A : Type 0} (l : Pair) (w : World) (es : List Event) (ask : World → Option A) (a : A)
+    → traced l w es ask ≡ some a → Mays l w es × (ask (run l w es) ≡ some a)
+traced-ok l w [] ask a h = (tt, h)
+traced-ok l w (v ∷ vs) ask a h =
+    let q = here (mayB l w v) _ a h in
+    let r = traced-ok l (step l w v) vs ask a (q .1) in
+    ((may-ok l w v (q .0), r .0), r .1)
