@@ -3,7 +3,9 @@ use Prim.Native.Nat.{ℕ, _-_, _+_, _*_, _≤_, _<_}
 use mathlib.Core.Path.{_≡_}
 use native.Mathlib.Nat.{mul-le-mul-right}
 use native.Mathlib.Omega.{arith}
-use lib.ListN.{getD}
+use lib.ListN.{length, getD}
+use mir.Syntax.{w64}
+use mir.Val.{Fits}
 use borrow.Author.Tests.{le-ltb, lt-ltb}
 use Rattle.ordering_plan.specs.State.{State}
 use Rattle.ordering.specs.Take.{nextPlace, nextOf}
@@ -30,17 +32,46 @@ pub record Touched (f : ℕ) (s : State) (k : ℕ) : Type 0 where
   pub own-end : k * f + f ≤ 64 * f
   pub last-end : (s .stream .held - 1) * f + f ≤ 64 * f
   pub below : k * f ≤ (s .stream .held - 1) * f
+  pub some : 1 ≤ s .stream .held
+  pub in-index : k < length (s .index)
+  pub in-lengths : k < length (s .lengths)
+  pub last-in-index : s .stream .held - 1 < length (s .index)
+  pub last-in-lengths : s .stream .held - 1 < length (s .lengths)
+  pub index-fits : Fits w64 (k * 4)
+  pub lengths-fit : Fits w64 (k * 2)
+  pub last-index-fits : Fits w64 ((s .stream .held - 1) * 4)
+  pub last-lengths-fit : Fits w64 ((s .stream .held - 1) * 2)
+  pub own-fits : Fits w64 (getD (s .lengths) k 0)
+  pub last-fits : Fits w64 (getD (s .lengths) (s .stream .held - 1) 0)
+  pub at-fits : Fits w64 (k * f)
+  pub from-fits : Fits w64 ((s .stream .held - 1) * f)
 
 pub touched : (f : ℕ) (s : State) (k : ℕ) → Room f s → k < s .stream .held → Touched f s k
 touched f s k r h =
-    let few = r .few in
+    let own = r .short k h in
+    let last = r .short (s .stream .held - 1) (omega arith) in
+    let own-end = place-end k f (omega arith) in
+    let last-end = place-end (s .stream .held - 1) f (omega arith) in
     record {
       held = h;
-      few = few;
+      few = r .few;
       small = r .small;
-      own = r .short k h;
-      last = r .short (s .stream .held - 1) (omega arith);
-      own-end = place-end k f (omega arith);
-      last-end = place-end (s .stream .held - 1) f (omega arith);
+      own = own;
+      last = last;
+      own-end = own-end;
+      last-end = last-end;
       below = mul-le-mul-right f (omega arith);
+      some = omega arith;
+      in-index = omega arith;
+      in-lengths = omega arith;
+      last-in-index = omega arith;
+      last-in-lengths = omega arith;
+      index-fits = omega arith;
+      lengths-fit = omega arith;
+      last-index-fits = omega arith;
+      last-lengths-fit = omega arith;
+      own-fits = omega arith;
+      last-fits = omega arith;
+      at-fits = omega arith;
+      from-fits = omega arith;
     }

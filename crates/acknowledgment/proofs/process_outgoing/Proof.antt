@@ -1,5 +1,4 @@
 -- A rung of the ladder for each refusal (`not-sent`); where there is a place (`within`) its slot holds the payload, which needs at most M fragments.
-use borrow.Author.Needs.{needs}
 use Rattle.acknowledgment.proofs.process_outgoing.Statement.{statement}
 use Rattle.acknowledgment.proofs.process_outgoing.Tie as tie
 use mathlib.Core.Path.{_≡_, refl, sym, ap, _∙_}
@@ -23,7 +22,7 @@ use Rattle.flight.specs.Places.{placeOf, full}
 use Rattle.flight.proofs.Room.{place-le, full-place}
 use Rattle.acks.specs.Gate.{tooLong}
 use Rattle.acknowledgment.specs.Calls.{isLent, isSound, outgoingOf}
-use Rattle.acknowledgment.proofs.Kept.{not-sent}
+use Rattle.acknowledgment.proofs.Kept.{not-sent, stored}
 
 abbrev end : tie.Start → State
 end c = lending (c .args .state) (now (c .args .received)) (now (c .args .number)) (now (c .args .records)) (now (c .args .bytes))
@@ -70,7 +69,7 @@ fullness c =
     ∙ rw (← placed c, whole (c .before .before .before .before .before .before .before .before .before .before .before .before .before .before .before))
 
 in-range-requires : tie.Need-in-range-requires
-in-range-requires c κs = search needs
+in-range-requires c κs = tt
 
 returns : tie.Need-returns
 unfolding outgoingOf
@@ -122,7 +121,7 @@ returns-3 c =
     not-sent (c .before .before .before .before .before .before .before .before .before .before .before .before .before .before .before .before .before .before .before .before .args .sizes) (end (c .before .before .before .before .before .before .before .before .before .before .before .before .before .before .before .before .before .before .before .before)) _ _ BadState (rw (in-range (c .before .before .before .before .before .before .before .before .before .before .before .before .before), long (c .before .before .before .before .before .before .before .before), bad))
 
 is-too-long-requires : tie.Need-is-too-long-requires
-is-too-long-requires c κs = search needs
+is-too-long-requires c κs = tt
 
 same-length-7 : tie.Need-same-length-7
 same-length-7 c = refl
@@ -194,28 +193,22 @@ store-requires c κs =
     (omega (arith, h, l .numbers), omega (arith, h, l .recorded), omega (arith, slot-end (c .before .before .before .before .before .place .result) (z .«packets_in_flight») (slotOf z) h, l .room), omega (arith, m, p), omega (arith, m, p, f))
 
 sent-requires : tie.Need-sent-requires
-sent-requires c κs = search needs
+sent-requires c κs = tt
 
 same-length-16 : tie.Need-same-length-16
-same-length-16 c = search needs
+same-length-16 c = c .before .before .before .before .before .before .before .store .kept .0
 
 same-length-17 : tie.Need-same-length-17
-same-length-17 c = search needs
+same-length-17 c = c .before .before .before .before .before .before .before .store .kept .1 .0
 
 same-length-18 : tie.Need-same-length-18
-same-length-18 c = search needs
+same-length-18 c = c .before .before .before .before .before .before .before .store .kept .1 .1 .0
 
 returns-7 : tie.Need-returns-7
-unfolding outgoingOf
 returns-7 c =
-    let done = c .before .before .before .before .before .before .before .store .ensures in
-    let here = ap (λ (k : ℕ). k) (c .before .before .before .before .before .before .before .before .before .before .before .before .before .place .ensures) in
-    record {
-      answer-is = rw (in-range (c .before .before .before .before .before .before .before .before .before .before .before .before .before .before .before .before .before .before .before .before .before .before .before .before .before .before .before .before .before .before .before .before .before), long (c .before .before .before .before .before .before .before .before .before .before .before .before .before .before .before .before .before .before .before .before .before .before .before .before .before .before .before .before), sound (c .before .before .before .before .before .before .before .before .before .before .before .before .before .before .before .before .before .before .before .before), short (c .before .before .before .before .before .before .before .before .before .before .before .before .before .before .before .before .before .before), few (c .before .before .before .before .before .before .before .before .before .before .before .before .before .before .before .before), fullness (c .before .before .before .before .before .before .before .before .before .before .before .before .before), ne-eqb _ _ (c .before .before .before .before .before .before .before .before .before .before .before .before .if6 .left), c .sent .ensures);
-      number-is = rw (in-range (c .before .before .before .before .before .before .before .before .before .before .before .before .before .before .before .before .before .before .before .before .before .before .before .before .before .before .before .before .before .before .before .before .before), long (c .before .before .before .before .before .before .before .before .before .before .before .before .before .before .before .before .before .before .before .before .before .before .before .before .before .before .before .before), sound (c .before .before .before .before .before .before .before .before .before .before .before .before .before .before .before .before .before .before .before .before), short (c .before .before .before .before .before .before .before .before .before .before .before .before .before .before .before .before .before .before), few (c .before .before .before .before .before .before .before .before .before .before .before .before .before .before .before .before), fullness (c .before .before .before .before .before .before .before .before .before .before .before .before .before), ne-eqb _ _ (c .before .before .before .before .before .before .before .before .before .before .before .before .if6 .left), ← c .before .before .before .before .before .before .before .before .before .before .before .before .before .place .ensures) (done .0);
-      records-is = rw (in-range (c .before .before .before .before .before .before .before .before .before .before .before .before .before .before .before .before .before .before .before .before .before .before .before .before .before .before .before .before .before .before .before .before .before), long (c .before .before .before .before .before .before .before .before .before .before .before .before .before .before .before .before .before .before .before .before .before .before .before .before .before .before .before .before), sound (c .before .before .before .before .before .before .before .before .before .before .before .before .before .before .before .before .before .before .before .before), short (c .before .before .before .before .before .before .before .before .before .before .before .before .before .before .before .before .before .before), few (c .before .before .before .before .before .before .before .before .before .before .before .before .before .before .before .before), fullness (c .before .before .before .before .before .before .before .before .before .before .before .before .before), ne-eqb _ _ (c .before .before .before .before .before .before .before .before .before .before .before .before .if6 .left), ← c .before .before .before .before .before .before .before .before .before .before .before .before .before .place .ensures) (done .1 .0);
-      bytes-is = rw (in-range (c .before .before .before .before .before .before .before .before .before .before .before .before .before .before .before .before .before .before .before .before .before .before .before .before .before .before .before .before .before .before .before .before .before), long (c .before .before .before .before .before .before .before .before .before .before .before .before .before .before .before .before .before .before .before .before .before .before .before .before .before .before .before .before), sound (c .before .before .before .before .before .before .before .before .before .before .before .before .before .before .before .before .before .before .before .before), short (c .before .before .before .before .before .before .before .before .before .before .before .before .before .before .before .before .before .before), few (c .before .before .before .before .before .before .before .before .before .before .before .before .before .before .before .before), fullness (c .before .before .before .before .before .before .before .before .before .before .before .before .before), ne-eqb _ _ (c .before .before .before .before .before .before .before .before .before .before .before .before .if6 .left), ← c .before .before .before .before .before .before .before .before .before .before .before .before .before .place .ensures) (done .1 .1);
-    }
+    let s = c .before .before .before .before .before .before .before .before .before .before .before .before .before .before .before .before .before .before .before .before .before .before .before .before .before .before .before .before .before .before .before .before .before .before .before .before .before .before .before .before in
+    stored (s .args .sizes) (end s) (s .args .sent) (now (s .args .payload)) (in-range (c .before .before .before .before .before .before .before .before .before .before .before .before .before .before .before .before .before .before .before .before .before .before .before .before .before .before .before .before .before .before .before .before .before)) (long (c .before .before .before .before .before .before .before .before .before .before .before .before .before .before .before .before .before .before .before .before .before .before .before .before .before .before .before .before)) (sound (c .before .before .before .before .before .before .before .before .before .before .before .before .before .before .before .before .before .before .before .before)) (short (c .before .before .before .before .before .before .before .before .before .before .before .before .before .before .before .before .before .before)) (few (c .before .before .before .before .before .before .before .before .before .before .before .before .before .before .before .before)) (fullness (c .before .before .before .before .before .before .before .before .before .before .before .before .before) ∙ ne-eqb _ _ (c .before .before .before .before .before .before .before .before .before .before .before .before .if6 .left))
+    (c .sent .ensures) (placed (c .before .before .before .before .before .before .before .before .before .before .before .before .before)) (c .before .before .before .before .before .before .before .store .ensures)
 
 pub process-outgoing-spec : {M : Type 1} → statement M
 process-outgoing-spec =

@@ -14,7 +14,7 @@ use Rattle.arranging_plan.specs.Gate.{gateOf, isRefused}
 use Rattle.arranging.specs.Calls.{arrangeOf}
 use Rattle.arranging_plan.proofs.Parts.{place-lt}
 use Rattle.arranging_plan.proofs.Gates.{Opened, opened, Accepted, accepted, refused-nothing}
-use Rattle.arranging.proofs.Answers.{arrange-shut, arrange-long, arrange-open}
+use Rattle.arranging.proofs.Answers.{arrange-shut, arrange-long, arrange-open, arranges}
 
 abbrev whole : tie.Start → States
 whole c = lendingAll (c .args .streams) (now (c .args .index)) (now (c .args .lengths)) (now (c .args .bytes))
@@ -40,22 +40,22 @@ taken-up c =
     (ap (λ (x : Planned). isRefused (x .plan)) (sym (c .before .before .judge .ensures)) ∙ sym (c .before .refused .ensures) ∙ c .if2 .left)
 
 check-requires : tie.Need-check-requires
-check-requires c κs = search needs
+check-requires c κs = tt
 
 enum-known-gate : tie.Need-enum-known-gate
 enum-known-gate c = search needs
 
 same-length : tie.Need-same-length
-same-length c = search needs
+same-length c = refl
 
 same-length-2 : tie.Need-same-length-2
-same-length-2 c = search needs
+same-length-2 c = refl
 
 same-length-3 : tie.Need-same-length-3
-same-length-3 c = search needs
+same-length-3 c = refl
 
 same-length-4 : tie.Need-same-length-4
-same-length-4 c = search needs
+same-length-4 c = refl
 
 returns : tie.Need-returns
 returns c =
@@ -72,16 +72,16 @@ enum-told : tie.Need-enum-told
 enum-told c = search needs
 
 same-length-5 : tie.Need-same-length-5
-same-length-5 c = search needs
+same-length-5 c = refl
 
 same-length-6 : tie.Need-same-length-6
-same-length-6 c = search needs
+same-length-6 c = refl
 
 same-length-7 : tie.Need-same-length-7
-same-length-7 c = search needs
+same-length-7 c = refl
 
 same-length-8 : tie.Need-same-length-8
-same-length-8 c = search needs
+same-length-8 c = refl
 
 returns-2 : tie.Need-returns-2
 returns-2 c =
@@ -99,19 +99,19 @@ judge-requires c κs =
     (r .four, r .indices, λ j h. r .each j h .few)
 
 refused-requires : tie.Need-refused-requires
-refused-requires c κs = search needs
+refused-requires c κs = tt
 
 same-length-9 : tie.Need-same-length-9
-same-length-9 c = search needs
+same-length-9 c = refl
 
 same-length-10 : tie.Need-same-length-10
-same-length-10 c = search needs
+same-length-10 c = refl
 
 same-length-11 : tie.Need-same-length-11
-same-length-11 c = search needs
+same-length-11 c = refl
 
 same-length-12 : tie.Need-same-length-12
-same-length-12 c = search needs
+same-length-12 c = refl
 
 returns-3 : tie.Need-returns-3
 returns-3 c =
@@ -142,16 +142,16 @@ perform-requires c κs =
     (r .room, rw at (place-lt (s .args .streams .known) (s .args .id) four (omega arith) (a .other)), c .before .before .before .before .before .before .before .before .before .before .before .if1 .left, rw at (ap (λ (x : Planned). x .plan) (c .before .before .before .before .before .before .before .before .before .judge .ensures) ∙ a .plan-is))
 
 same-length-13 : tie.Need-same-length-13
-same-length-13 c = search needs
+same-length-13 c = c .before .before .before .before .before .before .perform .kept .1 .1 .0
 
 same-length-14 : tie.Need-same-length-14
-same-length-14 c = search needs
+same-length-14 c = c .before .before .before .before .before .before .perform .kept .1 .1 .1 .0
 
 same-length-15 : tie.Need-same-length-15
-same-length-15 c = search needs
+same-length-15 c = c .before .before .before .before .before .before .perform .kept .1 .1 .1 .1 .0
 
 same-length-16 : tie.Need-same-length-16
-same-length-16 c = search needs
+same-length-16 c = c .before .before .before .before .before .before .before .before .before .before .before .before .hand-out .kept .1 .1 .0
 
 returns-4 : tie.Need-returns-4
 returns-4 c =
@@ -160,11 +160,7 @@ returns-4 c =
     let w = planned (c .before .before .before .before .before .before .before .before .before .before .before .before .before .before .before .before) in
     let at : c .before .before .before .before .before .before .before .before .before .before .before .before .before .before .before .before .judge .result .at ≡ placeOf (s .args .streams .known) (s .args .id) = ap (λ (x : Planned). x .at) (c .before .before .before .before .before .before .before .before .before .before .before .before .before .before .before .before .judge .ensures) ∙ a .place-is in
     let q : isRefused (c .before .before .before .before .before .before .before .before .before .before .before .before .before .before .before .before .judge .result .plan) ≡ false = sym (c .before .before .before .before .before .before .before .before .before .before .before .before .before .before .before .refused .ensures) ∙ c .before .before .before .before .before .before .before .before .before .before .before .before .before .before .if2 .left in
-    record {
-      answer-is = sym w;
-      leaves = rw (w, q) (rw at at (c .before .before .before .before .before .before .perform .ensures));
-      output-is = rw w (c .before .before .before .before .before .before .before .before .before .before .before .before .hand-out .ensures);
-    }
+    arranges (s .args .sizes) (whole s) (s .args .id) (now (s .args .output)) (s .args .item .0) (now (s .args .payload)) w q at (c .before .before .before .before .before .before .perform .ensures) (c .before .before .before .before .before .before .before .before .before .before .before .before .hand-out .ensures)
 
 pub arrange-spec : {M : Type 1} → statement M
 arrange-spec =

@@ -5,7 +5,7 @@ use mathlib.Core.Path.{_≡_, refl, sym, _∙_}
 use Prim.Native.Nat.{ℕ, _+_, _-_, _*_}
 use mathlib.Core.List.{List, _++_}
 use native.Mathlib.Omega.{arith}
-use lib.ListN.{length, getD, take, drop}
+use lib.ListN.{length, getD, take, drop, length-set}
 use lib.Seq.{length-take-le}
 use denote.Ref.{now}
 use Rattle.ordering_plan.specs.State.{State, lending}
@@ -33,10 +33,10 @@ slice-aggregate-find : tie.Need-slice-aggregate-find
 slice-aggregate-find c = sym (length-take-le (c .before .before .before .before .before .before .args .stream .held) (now (c .before .before .before .before .before .before .args .index)) (omega (arith, c .before .before .before .before .before .before .pre .0 .few, c .before .before .before .before .before .before .pre .0 .indices)))
 
 find-requires : tie.Need-find-requires
-find-requires c κs = search needs
+find-requires c κs = tt
 
 same-length : tie.Need-same-length
-same-length c = search needs
+same-length c = refl
 
 returns : tie.Need-returns
 returns c =
@@ -49,22 +49,16 @@ returns c =
     }
 
 mul-n : tie.Need-mul-n
-mul-n c = search needs
+mul-n c = known c .lengths-fit
 
 slice-read-n : tie.Need-slice-read-n
-slice-read-n c =
-    let h = known (c .before) in
-    omega (arith, c .before .before .before .before .before .before .before .before .before .pre .0 .lengths)
+slice-read-n c = known (c .before) .in-lengths
 
 cast-n : tie.Need-cast-n
-cast-n c =
-    let h = known (c .before) in
-    omega arith
+cast-n c = known (c .before) .own-fits
 
 mul-at : tie.Need-mul-at
-mul-at c =
-    let h = known (c .before) in
-    omega arith
+mul-at c = known (c .before) .at-fits
 
 add-copy : tie.Need-add-copy
 add-copy c = omega (arith, known (c .before))
@@ -86,29 +80,25 @@ copy-requires c κs =
     omega (arith, s .pre .1, part-length (now (s .args .bytes)) (k * s .args .f) (getD (now (s .args .lengths)) k 0) (omega (arith, s .pre .0 .bytes)))
 
 sub-last : tie.Need-sub-last
-sub-last c = search needs
+sub-last c = known (c .before .before .before .before .before .before .before) .some
 
 mul-last-index : tie.Need-mul-last-index
-mul-last-index c = search needs
+mul-last-index c = known (c .before .before .before .before .before .before .before) .last-index-fits
 
 slice-read-last-index : tie.Need-slice-read-last-index
-slice-read-last-index c = search needs
+slice-read-last-index c = known (c .before .before .before .before .before .before .before .before) .last-in-index
 
 mul-last-length : tie.Need-mul-last-length
-mul-last-length c = search needs
+mul-last-length c = known (c .before .before .before .before .before .before .before .before) .last-lengths-fit
 
 slice-read-last-length : tie.Need-slice-read-last-length
-slice-read-last-length c = search needs
+slice-read-last-length c = known (c .before .before .before .before .before .before .before .before .before) .last-in-lengths
 
 mul-move-down : tie.Need-mul-move-down
-mul-move-down c =
-    let h = known (c .before .before .before .before .before .before .before .before .before .before) in
-    omega arith
+mul-move-down c = known (c .before .before .before .before .before .before .before .before .before .before) .from-fits
 
 cast-move-down : tie.Need-cast-move-down
-cast-move-down c =
-    let h = known (c .before .before .before .before .before .before .before .before .before .before) in
-    omega arith
+cast-move-down c = known (c .before .before .before .before .before .before .before .before .before .before) .last-fits
 
 move-down-requires : tie.Need-move-down-requires
 move-down-requires c κs =
@@ -116,31 +106,31 @@ move-down-requires c κs =
     omega (arith, c .before .before .before .before .before .before .before .before .before .before .before .before .before .before .before .before .before .before .pre .0 .bytes)
 
 mul-index : tie.Need-mul-index
-mul-index c = search needs
+mul-index c = known (c .before .before .before .before .before .before .before .before .before .before .before .before .before) .index-fits
 
 slice-write-index : tie.Need-slice-write-index
-slice-write-index c = search needs
+slice-write-index c = known (c .before .before .before .before .before .before .before .before .before .before .before .before .before) .in-index
 
 mul-lengths : tie.Need-mul-lengths
-mul-lengths c = search needs
+mul-lengths c = known (c .before .before .before .before .before .before .before .before .before .before .before .before .before) .lengths-fit
 
 slice-write-lengths : tie.Need-slice-write-lengths
-slice-write-lengths c = search needs
+slice-write-lengths c = known (c .before .before .before .before .before .before .before .before .before .before .before .before .before) .in-lengths
 
 shrink-requires : tie.Need-shrink-requires
-shrink-requires c κs = search needs
+shrink-requires c κs = known (c .before .before .before .before .before .before .before .before .before .before .before .before .before) .some
 
 same-length-2 : tie.Need-same-length-2
-same-length-2 c = search needs
+same-length-2 c = simp length-set
 
 same-length-3 : tie.Need-same-length-3
-same-length-3 c = search needs
+same-length-3 c = simp length-set
 
 same-length-4 : tie.Need-same-length-4
-same-length-4 c = search needs
+same-length-4 c = c .before .before .before .move-down .kept .0
 
 same-length-5 : tie.Need-same-length-5
-same-length-5 c = search needs
+same-length-5 c = c .before .before .before .before .before .before .before .before .before .copy .kept .1 .0
 
 returns-2 : tie.Need-returns-2
 returns-2 c =
