@@ -1,7 +1,8 @@
 // Replays a script over the port: reads its fields on standard input and prints one line for each, to the end of the
 // script or to the first field that is none, which prints `bad`. laminar's lines for the same script are the same.
 // Read the crate `script` for the form of a field, then the operations in question: those of the connections in the crate
-// `replay_connection`, those of the single modules in `replay_modules`. A field goes through all of them, and each leaves those of others alone.
+// `replay_connection`, those of the single modules in `replay_modules`. A field goes through all of them, and each leaves
+// those of others alone.
 use replay_calls::Connection;
 use replay_modules::Modules;
 use script::Field;
