@@ -10,7 +10,7 @@ use Rattle.terms.specs.Sizes.{inRange}
 use Rattle.terms.specs.declared.Sizes.{Sizes}
 use Rattle.terms.specs.declared.Refusal.{Refusal}
 use Rattle.flight.specs.declared.SentPacket.{SentPacket}
-use Rattle.flight.specs.Entry.{packed}
+use Rattle.flight.specs.Entry.{wordOf, numbersIn, packed}
 use Rattle.flight.specs.Places.{full}
 use Rattle.acks.specs.State.{State, tableOf, slotOf, sentOne}
 use Rattle.acks.specs.Gate.{tooLong}
@@ -33,9 +33,9 @@ not-sent z s sent payload why e = record { answer-is = sym e; number-is = rw e; 
 pub stored : (z : Sizes) (s : State) (sent : SentPacket) (payload : List ℕ) {j : ℕ} {counters : Acknowledgment} {number records bytes : List ℕ}
     → inRange z ≡ true → isLent z s ≡ true → isSound z s ≡ true → tooLong z sent (length payload) ≡ false
     → ltb (z .«max_fragments» * z .«fragment_size») (length payload) ≡ false
-    → full (s .counters .«sequence_number» .0) (tableOf z (s .number)) ≡ false
+    → full (s .counters .«sequence_number» .0) (numbersIn (tableOf z (s .number))) ≡ false
     → counters ≡ sentOne (s .counters) → j ≡ at z s
-    → (number ≡ set (s .number) j (s .counters .«sequence_number» .0)) × ((records ≡ set (s .records) j (packed sent (length payload))) × (bytes ≡ paste (s .bytes) (j * slotOf z) payload (length payload)))
+    → (number ≡ set (s .number) j (wordOf (s .counters .«sequence_number» .0) (length payload))) × ((records ≡ set (s .records) j (packed sent)) × (bytes ≡ paste (s .bytes) (j * slotOf z) payload (length payload)))
     → Outgoing z s sent payload (Done counters) number records bytes
 unfolding outgoingOf
 stored z s sent payload in-range long sound short few room e p done =

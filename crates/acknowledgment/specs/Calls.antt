@@ -10,7 +10,7 @@ use Rattle.terms.specs.declared.Sizes.{Sizes}
 use Rattle.terms.specs.Refusals.{numberOf}
 use Rattle.terms.specs.declared.Refusal.the-variants.{TooLong, ExceededMaxFragments, Full}
 use Rattle.received.specs.Record.{recorded}
-use Rattle.flight.specs.Entry.{packed}
+use Rattle.flight.specs.Entry.{wordOf, numbersIn, packed}
 use Rattle.flight.specs.Places.{placeOf, full}
 use Rattle.flight.specs.declared.SentPacket.{SentPacket}
 use Rattle.acks.specs.State.{State, tableOf, slotOf, heard, unacked, sentOne}
@@ -27,7 +27,7 @@ abbrev pub isLent : Sizes → State → Bool
 isLent z s = lent z (s .received) (s .number) (s .records) (s .bytes)
 
 abbrev pub isSound : Sizes → State → Bool
-isSound z s = sound z (s .received) (s .number) (s .records)
+isSound z s = sound z (s .received) (s .number)
 
 -- 01's number of each answer, 0 where nothing is refused
 abbrev pub numberOfProcessed : Processed → ℕ
@@ -60,17 +60,17 @@ outgoingOf z s sent count =
     gated z (isLent z s) (isSound z s) Refused
     (cond (tooLong z sent count) (Refused TooLong)
     (cond (ltb (z .«max_fragments» * z .«fragment_size») count) (Refused ExceededMaxFragments)
-    (cond (full (s .counters .«sequence_number» .0) (tableOf z (s .number))) (Refused Full)
+    (cond (full (s .counters .«sequence_number» .0) (numbersIn (tableOf z (s .number)))) (Refused Full)
     (Done (sentOne (s .counters))))))
 
 -- where it is stored: "under the local number, replacing an entry of that number"
 abbrev pub at : Sizes → State → ℕ
-at z s = placeOf (s .counters .«sequence_number» .0) (tableOf z (s .number))
+at z s = placeOf (s .counters .«sequence_number» .0) (numbersIn (tableOf z (s .number)))
 
 pub record Outgoing (z : Sizes) (s : State) (sent : SentPacket) (payload : List ℕ) (r : Processed) (number records bytes : List ℕ) : Type 0 where
   pub answer-is : r ≡ outgoingOf z s sent (length payload)
-  pub number-is : number ≡ kept (outgoingOf z s sent (length payload)) (set (s .number) (at z s) (s .counters .«sequence_number» .0)) (s .number)
-  pub records-is : records ≡ kept (outgoingOf z s sent (length payload)) (set (s .records) (at z s) (packed sent (length payload))) (s .records)
+  pub number-is : number ≡ kept (outgoingOf z s sent (length payload)) (set (s .number) (at z s) (wordOf (s .counters .«sequence_number» .0) (length payload))) (s .number)
+  pub records-is : records ≡ kept (outgoingOf z s sent (length payload)) (set (s .records) (at z s) (packed sent)) (s .records)
   pub bytes-is : bytes ≡ kept (outgoingOf z s sent (length payload)) (paste (s .bytes) (at z s * slotOf z) payload (length payload)) (s .bytes)
 
 abbrev pub answeredBy : Drop → DroppedPackets

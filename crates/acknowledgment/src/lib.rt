@@ -37,7 +37,7 @@ pub fn process_incoming(
     state: Acknowledgment,
     received: &mut [u32],
     number: &mut [u32],
-    records: &[u64],
+    records: &[u32],
     bytes: &[u8],
     packet: PacketNumber,
     acked: PacketNumber,
@@ -52,8 +52,8 @@ pub fn process_incoming(
         return Processed::Refused(Refusal::BadStorage);
     }
     let next = state.sequence_number;
-    let at_home = acks::home::is_home(sizes, next, number, records);
-    if !acks::home::is_sound(sizes, received, number, records, at_home) {
+    let at_home = acks::home::is_home(sizes, next, number);
+    if !acks::home::is_sound(sizes, received, number, at_home) {
         return Processed::Refused(Refusal::BadState);
     }
     let n = sizes.packets_in_flight;
@@ -74,7 +74,7 @@ pub fn process_outgoing(
     state: Acknowledgment,
     received: &[u32],
     number: &mut [u32],
-    records: &mut [u64],
+    records: &mut [u32],
     bytes: &mut [u8],
     sent: SentPacket,
     payload: &[u8],
@@ -88,8 +88,8 @@ pub fn process_outgoing(
         return Processed::Refused(Refusal::BadStorage);
     }
     let next = state.sequence_number;
-    let at_home = acks::home::is_home(sizes, next, number, records);
-    if !acks::home::is_sound(sizes, received, number, records, at_home) {
+    let at_home = acks::home::is_home(sizes, next, number);
+    if !acks::home::is_sound(sizes, received, number, at_home) {
         return Processed::Refused(Refusal::BadState);
     }
     if acks::gate::is_too_long(sizes, sent, payload.len()) {
@@ -115,7 +115,7 @@ pub fn dropped_packets(
     state: Acknowledgment,
     received: &[u32],
     number: &mut [u32],
-    records: &[u64],
+    records: &[u32],
     bytes: &[u8],
     output: &mut [u8],
 ) -> DroppedPackets
@@ -132,8 +132,8 @@ pub fn dropped_packets(
         return DroppedPackets::Refused(Refusal::BadStorage);
     }
     let next = state.sequence_number;
-    let at_home = acks::home::is_home(sizes, next, number, records);
-    if !acks::home::is_sound(sizes, received, number, records, at_home) {
+    let at_home = acks::home::is_home(sizes, next, number);
+    if !acks::home::is_sound(sizes, received, number, at_home) {
         return DroppedPackets::Refused(Refusal::BadState);
     }
     let n = sizes.packets_in_flight;

@@ -20,14 +20,15 @@ use Rattle.sequence_buffer.specs.Buffer.{none as noNumber, fresh, emptied, inse
 use Rattle.sequence_buffer.proofs.Held.{length-inserted}
 use Rattle.sequence_buffer.proofs.Home.{Home, home-apart, home-inserted}
 use Rattle.received.specs.Record.{slotCount, slotsOf, recorded}
-use Rattle.flight.specs.Entry.{packed}
+use Rattle.flight.specs.Entry.{wordOf, numbersIn, packed}
 use Rattle.flight.specs.Places.{full}
-use Rattle.flight.specs.Acked.{isAcked}
+use Rattle.flight.specs.Acked.{isTold}
 use Rattle.flight.specs.Lost.{numberLeft}
 use Rattle.flight.specs.View.{Flight, Sound, Fits}
 use Rattle.flight.specs.declared.SentPacket.{SentPacket}
 use Rattle.flight.specs.declared.lost.Dropped.{Dropped}
 use Rattle.flight.specs.declared.lost.Drop.the-variants.{Packet as OneDrop}
+use Rattle.flight.proofs.Words.{numbers-length, none-here}
 use Rattle.flight.proofs.Stays.{sound-of, fits-all, stays-acked, stays-dropped, stays-stored, place-within, slot-within}
 use Rattle.acks.specs.State.{State, lending, tableOf, slotOf, heard, unacked, sentOne}
 use Rattle.acks.specs.Gate.{lent, flightLent, sound, tooLong}
@@ -83,7 +84,7 @@ module _ (z : Sizes) (s : State) (r : inRange z ≡ true) (g : Good z s) where
         let long : length (insertedSlots (s .counters .received .0) slots number) ≡ slotCount =
         length-inserted (s .counters .received .0) slots number ∙ length-take-le slotCount (s .received) (l .slots) in
         let p = fronted slotCount (insertedSlots (s .counters .received .0) slots number) (drop slotCount (s .received)) long in
-        let q = fronted n (map (emptied (isAcked acked field)) (tableOf z (s .number))) (drop n (s .number)) (length-map (tableOf z (s .number)) (emptied (isAcked acked field)) ∙ whole z s g) in
+        let q = fronted n (map (emptied (isTold acked field)) (tableOf z (s .number))) (drop n (s .number)) (length-map (tableOf z (s .number)) (emptied (isTold acked field)) ∙ whole z s g) in
         record {
           lengths = record { slots = p .1; numbers = q .1; recorded = l .recorded; room = l .room };
           home = rw (p .0) (home-inserted slotCount (s .counters .received .0) slots number (g .home));
@@ -96,12 +97,12 @@ module _ (z : Sizes) (s : State) (r : inRange z ≡ true) (g : Good z s) where
     k = at z s
 
     abbrev word : ℕ
-    word = packed sent (length payload)
+    word = wordOf (s .counters .«sequence_number» .0) (length payload)
 
     abbrev pub go : State
-    go = lending (sentOne (s .counters)) (s .received) (set (s .number) k (s .counters .«sequence_number» .0)) (set (s .records) k word) (paste (s .bytes) (k * slotOf z) payload (length payload))
+    go = lending (sentOne (s .counters)) (s .received) (set (s .number) k word) (set (s .records) k (packed sent)) (paste (s .bytes) (k * slotOf z) payload (length payload))
 
-    pub good-go : full (s .counters .«sequence_number» .0) (tableOf z (s .number)) ≡ false → length payload ≤ z .«max_fragments» * z .«fragment_size» → Good z go
+    pub good-go : full (s .counters .«sequence_number» .0) (numbersIn (tableOf z (s .number))) ≡ false → length payload ≤ z .«max_fragments» * z .«fragment_size» → Good z go
     good-go roomy few =
         let l = g .lengths in
         let range = in-range-means z r in
@@ -114,12 +115,12 @@ module _ (z : Sizes) (s : State) (r : inRange z ≡ true) (g : Good z s) where
         record {
           lengths = record {
             slots = l .slots;
-            numbers = rw (length-set (s .number) k local) (l .numbers);
-            recorded = rw (length-set (s .records) k word) (l .recorded);
+            numbers = rw (length-set (s .number) k word) (l .numbers);
+            recorded = rw (length-set (s .records) k (packed sent)) (l .recorded);
             room = rw (length-paste (s .bytes) (k * slotOf z) payload (length payload) (omega (arith, slot, small .slot)) (omega arith)) (l .room);
           };
           home = g .home;
-          flying = rw (take-set-lt n (s .number) k local (omega (arith, within, whole z s g))) (stays-stored (slotOf z) (flightOf z s) (g .flying) local sent payload (g .next) small roomy);
+          flying = rw (take-set-lt n (s .number) k word (omega (arith, within, whole z s g))) (stays-stored (slotOf z) (flightOf z s) (g .flying) local sent payload (g .next) small roomy);
           next = mod-lt (local + 1) {m = 65536} (omega arith);
         }
 
@@ -132,14 +133,14 @@ module _ (z : Sizes) (s : State) (r : inRange z ≡ true) (g : Good z s) where
         case (ltb (z .«max_fragments» * z .«fragment_size») (length payload))
         (λ q. rw (r, good-lent z s g, good-sound z s g, e, q) g)
         (λ q.
-        case (full (s .counters .«sequence_number» .0) (tableOf z (s .number)))
+        case (full (s .counters .«sequence_number» .0) (numbersIn (tableOf z (s .number))))
         (λ f. rw (r, good-lent z s g, good-sound z s g, e, q, f) g)
         (λ f. rw (r, good-lent z s g, good-sound z s g, e, q, f) (good-go f (ltb-false (z .«max_fragments» * z .«fragment_size») (length payload) q)))))
 
   pub good-drop : (d : Dropped) → Good z (lending (s .counters) (s .received) (numberLeft (OneDrop d) (tableOf z (s .number)) ++ drop n (s .number)) (s .records) (s .bytes))
   good-drop d =
       let l = g .lengths in
-      let q = fronted n (numberLeft (OneDrop d) (tableOf z (s .number))) (drop n (s .number)) (length-set (tableOf z (s .number)) (firstPlace (d .number .0) (tableOf z (s .number))) noNumber ∙ whole z s g) in
+      let q = fronted n (numberLeft (OneDrop d) (tableOf z (s .number))) (drop n (s .number)) (length-set (tableOf z (s .number)) (firstPlace (d .number .0) (numbersIn (tableOf z (s .number)))) noNumber ∙ whole z s g) in
       record {
         lengths = record { slots = l .slots; numbers = q .1; recorded = l .recorded; room = l .room };
         home = g .home;
@@ -195,9 +196,13 @@ module _ (z : Sizes) (a b : ℕ) (records bytes : List ℕ) (r : inRange z ≡ t
           some-place = omega (arith, long, n);
           recorded = omega (arith, long, l .recorded);
           slots = rw long (l .room);
-          not-13 = sound-of (slotOf z) (tableOf z (fresh b)) records
-              (fits-all (slotOf z) (tableOf z (fresh b)) records (λ i h k key. absurd (omega (arith, key, none-sent i (omega (arith, h, long))))))
-              (all-apart (tableOf z (fresh b)) (λ i j before within key same. omega (arith, key, none-sent i (omega (arith, before, within, long)))));
+          not-13 = sound-of (slotOf z) (tableOf z (fresh b))
+              (fits-all (slotOf z) (tableOf z (fresh b)) (λ i h key. absurd (omega (arith, key, none-sent i (omega (arith, h, long))))))
+              (all-apart (numbersIn (tableOf z (fresh b)))
+              (λ i j before within key same.
+              let wide = numbers-length (tableOf z (fresh b)) in
+              let here : i < length (tableOf z (fresh b)) = omega arith in
+              absurd (omega (arith, key, none-here (tableOf z (fresh b)) i here (omega (arith, none-sent i (omega (arith, here, long))))))));
         };
         next = omega arith;
       }

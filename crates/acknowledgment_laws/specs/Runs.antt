@@ -10,7 +10,7 @@ use Rattle.terms.specs.Sizes.{inRange}
 use Rattle.terms.specs.declared.Sizes.{Sizes}
 use Rattle.sequence_buffer.specs.Buffer.{fresh}
 use Rattle.received.specs.Record.{recorded}
-use Rattle.flight.specs.Entry.{packed}
+use Rattle.flight.specs.Entry.{wordOf, packed}
 use Rattle.flight.specs.declared.SentPacket.{SentPacket}
 use Rattle.acks.specs.State.{State, lending, slotOf, freshCounters, unacked}
 use Rattle.acknowledgment.specs.Calls.{isLent, isSound, kept, incomingOf, outgoingOf, at, droppedOf, numberKept}
@@ -46,8 +46,8 @@ called z s (goes sent payload) =
     record {
       counters = countersAfter r (s .counters);
       received = s .received;
-      number = kept r (set (s .number) (at z s) (s .counters .«sequence_number» .0)) (s .number);
-      records = kept r (set (s .records) (at z s) (packed sent (length payload))) (s .records);
+      number = kept r (set (s .number) (at z s) (wordOf (s .counters .«sequence_number» .0) (length payload))) (s .number);
+      records = kept r (set (s .records) (at z s) (packed sent)) (s .records);
       bytes = kept r (paste (s .bytes) (at z s * slotOf z) payload (length payload)) (s .bytes);
     }
 called z s (drops output) =

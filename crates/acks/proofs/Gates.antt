@@ -10,6 +10,7 @@ use Rattle.laws.proofs.Cases.{each, off}
 use Rattle.keys.specs.Keys.{twice}
 use Rattle.terms.specs.declared.Sizes.{Sizes}
 use Rattle.received.specs.Record.{slotCount, slotsOf}
+use Rattle.flight.specs.Entry.{numbersIn}
 use Rattle.flight.specs.Places.{overLong, sound as flightSound}
 use Rattle.acks.specs.State.{tableOf, slotOf}
 use Rattle.terms.specs.Sizes.{inRange}
@@ -43,20 +44,20 @@ lent-means z received number records bytes e =
       room = leb-true (z .«packets_in_flight» * slotOf z) (length bytes) (q .1);
     }
 
-pub record Sound (z : Sizes) (received number records : List ℕ) : Type 0 where
+pub record Sound (z : Sizes) (received number : List ℕ) : Type 0 where
   pub once-received : twice (slotsOf received) ≡ false
-  pub fits : overLong (slotOf z) (tableOf z number) records ≡ false
-  pub once-sent : twice (tableOf z number) ≡ false
+  pub fits : overLong (slotOf z) (tableOf z number) ≡ false
+  pub once-sent : twice (numbersIn (tableOf z number)) ≡ false
 
-pub sound-means : (z : Sizes) (received number records : List ℕ) → sound z received number records ≡ true → Sound z received number records
+pub sound-means : (z : Sizes) (received number : List ℕ) → sound z received number ≡ true → Sound z received number
 unfolding sound flightSound
-sound-means z received number records e =
-    let p = each (not (twice (slotsOf received))) (not (overLong (slotOf z) (tableOf z number) records) && not (twice (tableOf z number))) e in
-    let q = each (not (overLong (slotOf z) (tableOf z number) records)) (not (twice (tableOf z number))) (p .1) in
+sound-means z received number e =
+    let p = each (not (twice (slotsOf received))) (not (overLong (slotOf z) (tableOf z number)) && not (twice (numbersIn (tableOf z number)))) e in
+    let q = each (not (overLong (slotOf z) (tableOf z number))) (not (twice (numbersIn (tableOf z number)))) (p .1) in
     record {
       once-received = off (twice (slotsOf received)) (p .0);
-      fits = off (overLong (slotOf z) (tableOf z number) records) (q .0);
-      once-sent = off (twice (tableOf z number)) (q .1);
+      fits = off (overLong (slotOf z) (tableOf z number)) (q .0);
+      once-sent = off (twice (numbersIn (tableOf z number))) (q .1);
     }
 
 -- sizes in range and long storage with a bad state: 13, whatever the answer would be

@@ -23,8 +23,8 @@ lent z received number records bytes =
     leb slotCount (length received) && (flightLent z number records && leb (z .«packets_in_flight» * slotOf z) (length bytes))
 
 -- not 13: no length is over its slot, and no packet number is twice in flight or received
-unfoldable pub sound : Sizes → List ℕ → List ℕ → List ℕ → Bool
-sound z received number records = not (twice (slotsOf received)) && flightSound (slotOf z) (tableOf z number) records
+unfoldable pub sound : Sizes → List ℕ → List ℕ → Bool
+sound z received number = not (twice (slotsOf received)) && flightSound (slotOf z) (tableOf z number)
 
 -- 1, 2, 13, and then what the call says
 abbrev pub gated : {A : Type 0} → Sizes → Bool → Bool → (Refusal → A) → A → A

@@ -9,6 +9,7 @@ use Rattle.terms.specs.Refusals.{numberOf}
 use Rattle.terms.specs.declared.Sizes.{Sizes}
 use Rattle.received.specs.Record.{slotCount, slotsOf}
 use Rattle.received.specs.Field.{fieldOf}
+use Rattle.flight.specs.Entry.{numbersIn}
 use Rattle.flight.specs.Places.{countOf, sound as flightSound}
 use Rattle.acks.specs.State.{tableOf, slotOf}
 use Rattle.acks.specs.Gate.{flightLent, gated}
@@ -30,8 +31,8 @@ numberOfTold (NotTold why) = numberOf why
 -- how many packets are in flight
 unfoldable pub countedOf : Sizes → List ℕ → List ℕ → InFlight
 countedOf z number records =
-    gated z (flightLent z number records) (flightSound (slotOf z) (tableOf z number) records) NotCounted
-    (Packets (countOf (tableOf z number)))
+    gated z (flightLent z number records) (flightSound (slotOf z) (tableOf z number)) NotCounted
+    (Packets (countOf (numbersIn (tableOf z number))))
 
 -- the field
 unfoldable pub toldOf : Sizes → Acknowledgment → List ℕ → AckBitfield

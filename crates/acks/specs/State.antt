@@ -8,7 +8,7 @@ use Rattle.serial.specs.Order.{greater, next}
 use Rattle.serial.specs.declared.PacketNumber.{PacketNumber}
 use Rattle.sequence_buffer.specs.Buffer.{insertedNum, emptied}
 use Rattle.received.specs.Record.{slotsOf}
-use Rattle.flight.specs.Acked.{isAcked}
+use Rattle.flight.specs.Acked.{isTold}
 use Rattle.acks.specs.declared.Acknowledgment.{Acknowledgment}
 
 -- the counters, and what is lent
@@ -50,7 +50,7 @@ heard c received n acked =
 
 -- "removes from flight exactly the acknowledged number and each number i before it whose bit is set"
 abbrev pub unacked : Sizes → List ℕ → ℕ → ℕ → List ℕ
-unacked z number acked field = map (emptied (isAcked acked field)) (tableOf z number) ++ drop (z .«packets_in_flight») number
+unacked z number acked field = map (emptied (isTold acked field)) (tableOf z number) ++ drop (z .«packets_in_flight») number
 
 -- the counters after a packet was sent: "then adds one with wrap-around"
 abbrev pub sentOne : Acknowledgment → Acknowledgment

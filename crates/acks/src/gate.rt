@@ -11,7 +11,7 @@ pub fn is_lent(
     sizes: Sizes,
     received: &[u32],
     number: &[u32],
-    records: &[u64],
+    records: &[u32],
     bytes: &[u8],
 ) -> bool
     requires { ⌜ inRange sizes ≡ true ⌝ }
@@ -27,7 +27,7 @@ pub fn is_lent(
 }
 
 // The columns of the packets in flight are not shorter than stated.
-pub fn is_flight_lent(sizes: Sizes, number: &[u32], records: &[u64]) -> bool
+pub fn is_flight_lent(sizes: Sizes, number: &[u32], records: &[u32]) -> bool
     ensures { λ r. ⌜ r ≡ flightLent sizes (now (number .entry)) (now (records .entry)) ⌝ }
 {
     sizes.packets_in_flight <= number.len() && sizes.packets_in_flight <= records.len()

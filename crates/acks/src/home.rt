@@ -14,13 +14,12 @@ use serial::PacketNumber;
 use terms::Sizes;
 
 // The packets in flight are at home. A `false` says nothing. Requires sizes in range, and columns as long as stated.
-pub fn is_home(sizes: Sizes, next: PacketNumber, number: &[u32], records: &[u64]) -> bool
-    requires { ⌜ (inRange sizes ≡ true) × (sizes .«packets_in_flight» ≤ length (now number)) × (sizes .«packets_in_flight» ≤ length (now records)) ⌝ }
-    ensures { λ r. ⌜ (r ≡ true → AtHome (slotOf sizes) (tableOf sizes (now (number .entry))) (now (records .entry))) ⌝ }
+pub fn is_home(sizes: Sizes, next: PacketNumber, number: &[u32]) -> bool
+    requires { ⌜ (inRange sizes ≡ true) × (sizes .«packets_in_flight» ≤ length (now number)) ⌝ }
+    ensures { λ r. ⌜ (r ≡ true → AtHome (slotOf sizes) (tableOf sizes (now (number .entry)))) ⌝ }
 {
     flight_home::home::is_home(
         &number[..sizes.packets_in_flight],
-        records,
         16 * sizes.fragment_size,
         next,
     )
@@ -36,21 +35,15 @@ pub fn is_lapped(received: &[u32]) -> bool
 }
 
 // Not 13, knowing whether the packets in flight are at home. Requires sizes in range, and what is lent to be as long as stated.
-pub fn is_sound(
-    sizes: Sizes,
-    received: &[u32],
-    number: &[u32],
-    records: &[u64],
-    at_home: bool,
-) -> bool
-    requires { ⌜ (inRange sizes ≡ true) × (slotCount ≤ length (now received)) × (sizes .«packets_in_flight» ≤ length (now number)) × (sizes .«packets_in_flight» ≤ length (now records)) × («at_home» ≡ true → AtHome (slotOf sizes) (tableOf sizes (now number)) (now records)) ⌝ }
-    ensures { λ r. ⌜ r ≡ sound sizes (now (received .entry)) (now (number .entry)) (now (records .entry)) ⌝ }
+pub fn is_sound(sizes: Sizes, received: &[u32], number: &[u32], at_home: bool) -> bool
+    requires { ⌜ (inRange sizes ≡ true) × (slotCount ≤ length (now received)) × (sizes .«packets_in_flight» ≤ length (now number)) × («at_home» ≡ true → AtHome (slotOf sizes) (tableOf sizes (now number))) ⌝ }
+    ensures { λ r. ⌜ r ≡ sound sizes (now (received .entry)) (now (number .entry)) ⌝ }
 {
     let lapped = is_lapped(received);
     if !is_record_sound(received, lapped) {
         return false;
     }
-    is_flight_sound(sizes, number, records, at_home)
+    is_flight_sound(sizes, number, at_home)
 }
 
 // No received number stands twice. Where the slots were seen to stand in laps, that is known. Requires the record's slots.
@@ -65,16 +58,12 @@ pub fn is_record_sound(received: &[u32], lapped: bool) -> bool
 }
 
 // Not 13 of the packets in flight, which holds at home. Requires sizes in range, and columns as long as stated.
-pub fn is_flight_sound(sizes: Sizes, number: &[u32], records: &[u64], at_home: bool) -> bool
-    requires { ⌜ (inRange sizes ≡ true) × (sizes .«packets_in_flight» ≤ length (now number)) × (sizes .«packets_in_flight» ≤ length (now records)) × («at_home» ≡ true → AtHome (slotOf sizes) (tableOf sizes (now number)) (now records)) ⌝ }
-    ensures { λ r. ⌜ r ≡ flightSound (slotOf sizes) (tableOf sizes (now (number .entry))) (now (records .entry)) ⌝ }
+pub fn is_flight_sound(sizes: Sizes, number: &[u32], at_home: bool) -> bool
+    requires { ⌜ (inRange sizes ≡ true) × (sizes .«packets_in_flight» ≤ length (now number)) × («at_home» ≡ true → AtHome (slotOf sizes) (tableOf sizes (now number))) ⌝ }
+    ensures { λ r. ⌜ r ≡ flightSound (slotOf sizes) (tableOf sizes (now (number .entry))) ⌝ }
 {
     if at_home {
         return true;
     }
-    flight::places::is_sound(
-        &number[..sizes.packets_in_flight],
-        records,
-        16 * sizes.fragment_size,
-    )
+    flight::places::is_sound(&number[..sizes.packets_in_flight], 16 * sizes.fragment_size)
 }

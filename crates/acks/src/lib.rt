@@ -67,7 +67,7 @@ impl Acknowledgment {
 }
 
 // How many packets are in flight.
-pub fn packets_in_flight(sizes: Sizes, number: &[u32], records: &[u64]) -> InFlight
+pub fn packets_in_flight(sizes: Sizes, number: &[u32], records: &[u32]) -> InFlight
     ensures { λ r. ⌜ r ≡ countedOf sizes (now (number .entry)) (now (records .entry)) ⌝ }
 {
     if !sizes.in_range() {
@@ -77,7 +77,7 @@ pub fn packets_in_flight(sizes: Sizes, number: &[u32], records: &[u64]) -> InFli
         return InFlight::Refused(Refusal::BadStorage);
     }
     let table = &number[..sizes.packets_in_flight];
-    if !flight_home::home::is_sound(table, records, 16 * sizes.fragment_size) {
+    if !flight_home::home::is_sound(table, 16 * sizes.fragment_size) {
         return InFlight::Refused(Refusal::BadState);
     }
     InFlight::Packets(flight::places::count(table))

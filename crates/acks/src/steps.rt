@@ -5,7 +5,7 @@ ghost use Prim.Native.Nat.{_≤_};
 ghost use lib.ListN.{length};
 ghost use Rattle.sequence_buffer.specs.Buffer.{emptied};
 ghost use Rattle.received.specs.Record.{slotCount, recorded};
-ghost use Rattle.flight.specs.Acked.{isAcked};
+ghost use Rattle.flight.specs.Acked.{isTold};
 ghost use Rattle.flight_home.specs.AtHome.{KnownHome};
 ghost use Rattle.acks.specs.State.{newerOf, heard, sentOne};
 use crate::Acknowledgment;
@@ -25,7 +25,7 @@ pub fn incoming(
     requires { ⌜ (slotCount ≤ length (now received)) × KnownHome «at_home» (now number) ⌝ }
     ensures { λ r. ⌜ r ≡ heard state (now (received .entry)) (packet .0) (acked .0) ⌝ }
     ensures { λ _. ⌜ now (received .exit) ≡ recorded (state .received .0) (now (received .entry)) (packet .0) ⌝ }
-    ensures { λ _. ⌜ now (number .exit) ≡ map (emptied (isAcked (acked .0) field)) (now (number .entry)) ⌝ }
+    ensures { λ _. ⌜ now (number .exit) ≡ map (emptied (isTold (acked .0) field)) (now (number .entry)) ⌝ }
 {
     let sequence_number = state.sequence_number;
     let before = state.remote_ack_sequence_num;

@@ -17,16 +17,18 @@ use Rattle.terms.specs.Sizes.{inRange}
 use Rattle.terms.specs.declared.Sizes.{Sizes}
 use Rattle.terms.proofs.Ranges.{in-range-means}
 use Rattle.sequence_buffer.specs.Buffer.{none as noNumber, emptied}
-use Rattle.flight.specs.Entry.{packed, packetOf, lengthOf, bytesAt}
+use Rattle.flight.specs.Entry.{wordOf, numbersIn, packed, lengthOf, bytesAt}
 use Rattle.flight.specs.Places.{placeOf, full}
-use Rattle.flight.specs.Acked.{isAcked}
+use Rattle.flight.specs.Acked.{isAcked, isTold}
 use Rattle.flight.specs.Lost.{isLost, leastLost, numberLeft, dropOf as lostOf}
 use Rattle.flight.specs.View.{Flight, Sent as Entry, view, Fits}
 use Rattle.flight.specs.declared.SentPacket.{SentPacket}
 use Rattle.flight.specs.declared.lost.Dropped.{Dropped}
 use Rattle.flight.specs.declared.lost.Drop.the-variants.{Packet as OneDrop}
-use Rattle.flight.proofs.Given.{facts}
-use Rattle.flight.proofs.Found.{first-at, least-found, fits-at}
+use Rattle.flight.proofs.Given.{drop-means, facts}
+use Rattle.flight.proofs.Found.{least-found, fits-at}
+use Rattle.flight.proofs.Viewed.{word-at}
+use Rattle.flight.proofs.Words.{is-number, numbers-length}
 use Rattle.flight.proofs.Stays.{place-within, sound-fits}
 use Rattle.acks.specs.State.{State as Acks, tableOf, slotOf, unacked}
 use Rattle.acknowledgment_laws.specs.Runs.{Typed}
@@ -53,10 +55,10 @@ module _ (z : Sizes) (s : Acks) (range : inRange z ≡ true) (g : Good z s) wher
   table-length = length-take-le N (s .number) (g .lengths .numbers)
 
   -- a packet has come
-  heard-table : (acked field : ℕ) → tableOf z (unacked z (s .number) acked field) ≡ map (emptied (isAcked acked field)) (tableOf z (s .number))
+  heard-table : (acked field : ℕ) → tableOf z (unacked z (s .number) acked field) ≡ map (emptied (isTold acked field)) (tableOf z (s .number))
   heard-table acked field =
-      take-at (map (emptied (isAcked acked field)) (tableOf z (s .number))) (drop N (s .number)) N
-      (length-map (tableOf z (s .number)) (emptied (isAcked acked field)) ∙ table-length)
+      take-at (map (emptied (isTold acked field)) (tableOf z (s .number))) (drop N (s .number)) N
+      (length-map (tableOf z (s .number)) (emptied (isTold acked field)) ∙ table-length)
 
   pub heard-keeps : (acked field m : ℕ) (e : Entry) → m < 65536
       → view (slotOf z) (record { number = tableOf z (unacked z (s .number) acked field); records = s .records; bytes = s .bytes }) m ≡ some e
@@ -68,7 +70,7 @@ module _ (z : Sizes) (s : Acks) (range : inRange z ≡ true) (g : Good z s) wher
       ∙ q)
 
   -- a packet is sent
-  module _ (sent : SentPacket) (payload : List ℕ) (t : Typed sent) (roomy : full (s .counters .«sequence_number» .0) (tableOf z (s .number)) ≡ false)
+  module _ (sent : SentPacket) (payload : List ℕ) (t : Typed sent) (roomy : full (s .counters .«sequence_number» .0) (numbersIn (tableOf z (s .number))) ≡ false)
       (few : length payload ≤ z .«max_fragments» * z .«fragment_size») where
     fits : Fits (slotOf z) sent payload
     fits =
@@ -83,15 +85,15 @@ module _ (z : Sizes) (s : Acks) (range : inRange z ≡ true) (g : Good z s) wher
         }
 
     abbrev at : ℕ
-    at = placeOf local (tableOf z (s .number))
+    at = placeOf local (numbersIn (tableOf z (s .number)))
 
     pub sent-view : (m : ℕ) → m < 65536
-        → view (slotOf z) (record { number = tableOf z (set (s .number) (placeOf (s .counters .«sequence_number» .0) (tableOf z (s .number))) (s .counters .«sequence_number» .0)); records = set (s .records) (placeOf (s .counters .«sequence_number» .0) (tableOf z (s .number))) (packed sent (length payload)); bytes = paste (s .bytes) (placeOf (s .counters .«sequence_number» .0) (tableOf z (s .number)) * slotOf z) payload (length payload) }) m
+        → view (slotOf z) (record { number = tableOf z (set (s .number) (placeOf (s .counters .«sequence_number» .0) (numbersIn (tableOf z (s .number)))) (wordOf (s .counters .«sequence_number» .0) (length payload))); records = set (s .records) (placeOf (s .counters .«sequence_number» .0) (numbersIn (tableOf z (s .number)))) (packed sent); bytes = paste (s .bytes) (placeOf (s .counters .«sequence_number» .0) (numbersIn (tableOf z (s .number))) * slotOf z) payload (length payload) }) m
         ≡ cond (eqb m (s .counters .«sequence_number» .0)) (some (record { packet = sent; payload = payload })) (view (slotOf z) (flightOf z s) m)
     sent-view m h =
         let within = place-within room fl (g .flying) local sent payload (g .next) fits roomy in
-        ap (λ (x : List ℕ). view room (record { number = x; records = set (s .records) at (packed sent (length payload)); bytes = paste (s .bytes) (at * room) payload (length payload) }) m)
-        (take-set-lt N (s .number) at local (let y = table-length in omega arith))
+        ap (λ (x : List ℕ). view room (record { number = x; records = set (s .records) at (packed sent); bytes = paste (s .bytes) (at * room) payload (length payload) }) m)
+        (take-set-lt N (s .number) at (wordOf local (length payload)) (let y = table-length in omega arith))
         ∙ facts .stored-view room fl local sent payload (g .flying) (g .next) fits roomy m h
 
   -- one is given up
@@ -103,7 +105,7 @@ module _ (z : Sizes) (s : Acks) (range : inRange z ≡ true) (g : Good z s) wher
     left-table : tableOf z (numberLeft (OneDrop d) (tableOf z (s .number)) ++ drop N (s .number)) ≡ numberLeft (OneDrop d) (tableOf z (s .number))
     left-table =
         take-at (numberLeft (OneDrop d) (tableOf z (s .number))) (drop N (s .number)) N
-        (length-set (tableOf z (s .number)) (firstPlace (d .number .0) (tableOf z (s .number))) noNumber ∙ table-length)
+        (length-set (tableOf z (s .number)) (firstPlace (d .number .0) (numbersIn (tableOf z (s .number)))) noNumber ∙ table-length)
 
     pub dropped-keeps : (m : ℕ) (x : Entry) → m < 65536
         → view (slotOf z) (record { number = tableOf z (numberLeft (OneDrop d) (tableOf z (s .number)) ++ drop (z .«packets_in_flight») (s .number)); records = s .records; bytes = s .bytes }) m ≡ some x
@@ -115,30 +117,21 @@ module _ (z : Sizes) (s : Acks) (range : inRange z ≡ true) (g : Good z s) wher
         ∙ q)
 
     pub given : view (slotOf z) (flightOf z s) (d .number .0)
-        ≡ some (record { packet = d .sent; payload = bytesAt (slotOf z) (s .bytes) (firstPlace (d .number .0) (tableOf z (s .number))) (d .count) })
+        ≡ some (record { packet = d .sent; payload = bytesAt (slotOf z) (s .bytes) (firstPlace (d .number .0) (numbersIn (tableOf z (s .number)))) (d .count) })
     given = facts .given-back room fl remote d e
 
-    drop-means : (leastLost remote (tableOf z (s .number)) < 65536)
-        × (_≡_ {A = Dropped} (record { number = record { 0 = leastLost remote (tableOf z (s .number)) }; sent = packetOf (getD (s .records) (firstPlace (leastLost remote (tableOf z (s .number))) (tableOf z (s .number))) 0); count = lengthOf (getD (s .records) (firstPlace (leastLost remote (tableOf z (s .number))) (tableOf z (s .number))) 0) }) d)
-    unfolding lostOf
-    drop-means =
-        case (ltb (leastLost remote (tableOf z (s .number))) 65536)
-        (λ q. let y = rw q at e in (ltb-true (leastLost remote (tableOf z (s .number))) 65536 q, cc))
-        (λ q. let y = rw q at e in absurd (let w : _≡_ {A = ℕ} 0 1 = cc in omega arith))
-
     -- the payload that is given back has the length that is told
-    pub given-size : length (bytesAt (slotOf z) (s .bytes) (firstPlace (d .number .0) (tableOf z (s .number))) (d .count)) ≡ d .count
+    pub given-size : length (bytesAt (slotOf z) (s .bytes) (firstPlace (d .number .0) (numbersIn (tableOf z (s .number)))) (d .count)) ≡ d .count
     given-size =
-        let m = drop-means in
-        let least : d .number .0 ≡ leastLost remote (tableOf z (s .number)) = sym (ap (λ (x : Dropped). x .number .0) (m .1)) in
-        let place : ℕ = firstPlace (leastLost remote (tableOf z (s .number))) (tableOf z (s .number)) in
-        let within : firstPlace (leastLost remote (tableOf z (s .number))) (tableOf z (s .number)) < length (tableOf z (s .number)) = least-found remote (tableOf z (s .number)) (m .0) in
-        let count-is : d .count ≡ lengthOf (getD (s .records) (firstPlace (leastLost remote (tableOf z (s .number))) (tableOf z (s .number))) 0) = sym (ap (λ (x : Dropped). x .count) (m .1)) in
-        let small : lengthOf (getD (s .records) (firstPlace (leastLost remote (tableOf z (s .number))) (tableOf z (s .number))) 0) ≤ slotOf z =
-        fits-at room (tableOf z (s .number)) (s .records) (firstPlace (leastLost remote (tableOf z (s .number))) (tableOf z (s .number)))
-        (sound-fits room (tableOf z (s .number)) (s .records) (g .flying .not-13)) within (let y = g .flying .recorded in omega arith)
-        (rw (first-at (leastLost remote (tableOf z (s .number))) (tableOf z (s .number)) within) (m .0)) in
-        let ends = slot-end (firstPlace (leastLost remote (tableOf z (s .number))) (tableOf z (s .number))) (length (tableOf z (s .number))) (slotOf z) within in
-        rw least
-        (part-length (s .bytes) (firstPlace (leastLost remote (tableOf z (s .number))) (tableOf z (s .number)) * slotOf z) (d .count)
-        (let y = g .flying .slots in omega arith))
+        let table = tableOf z (s .number) in
+        let least = leastLost remote (numbersIn table) in
+        let place = firstPlace least (numbersIn table) in
+        let m = drop-means remote table (s .records) d e in
+        let same : d .number .0 ≡ leastLost remote (numbersIn (tableOf z (s .number))) = sym (ap (λ (x : Dropped). x .number .0) (m .1)) in
+        let within : firstPlace (leastLost remote (numbersIn (tableOf z (s .number)))) (numbersIn (tableOf z (s .number))) < length (tableOf z (s .number)) =
+        rw (sym (numbers-length table)) (least-found remote (numbersIn table) (m .0)) in
+        let count-is : d .count ≡ lengthOf (getD (tableOf z (s .number)) (firstPlace (leastLost remote (numbersIn (tableOf z (s .number)))) (numbersIn (tableOf z (s .number)))) 0) = sym (ap (λ (x : Dropped). x .count) (m .1)) in
+        let in-flight = is-number (getD table place 0) (rw (word-at least table within) (m .0)) in
+        let small = fits-at room table place (sound-fits room table (g .flying .not-13)) within in-flight in
+        let ends = slot-end place (length table) (slotOf z) within in
+        rw same (part-length (s .bytes) (place * slotOf z) (d .count) (let y = g .flying .slots in omega arith))

@@ -12,21 +12,21 @@ use lib.ListN.{length, getD, take, drop, getD-replicate}
 use lib.Seq.{take-at, getD-take, length-take-le}
 use Rattle.laws.proofs.Cases.{case, each, lt-or-le}
 use Rattle.keys.specs.Keys.{firstPlace}
-use Rattle.keys.proofs.First.{first-at}
 use Rattle.serial.specs.Order.{next}
 use Rattle.terms.specs.declared.Sizes.{Sizes}
 use Rattle.terms.proofs.Ranges.{in-range-means}
 use Rattle.terms.specs.declared.Gate.{Gate}
 use Rattle.terms.specs.declared.Gate.the-variants.{Open, Shut}
 use Rattle.sequence_buffer.specs.Buffer.{none as noNumber}
-use Rattle.flight.specs.Entry.{lengthOf, bytesAt}
+use Rattle.flight.specs.Entry.{numbersIn, lengthOf, bytesAt}
 use Rattle.flight.specs.Lost.{dropOf as lostOf}
 use Rattle.flight.specs.View.{Sent as Entry, view}
 use Rattle.flight.specs.declared.SentPacket.{SentPacket}
 use Rattle.flight.specs.declared.lost.Dropped.{Dropped as Given}
 use Rattle.flight.specs.declared.lost.Drop.{Drop}
 use Rattle.flight.specs.declared.lost.Drop.the-variants.{Nothing as NoLoss, Packet as OneLoss}
-use Rattle.flight.proofs.Viewed.{seen as seenAt, unseen}
+use Rattle.flight.proofs.Viewed.{seen as seenAt, unseen, word-at}
+use Rattle.flight.proofs.Words.{no-number as noNumberIn}
 use Rattle.acks.specs.State.{State as Acks, tableOf, slotOf}
 use Rattle.acknowledgment.specs.Calls.{answeredBy, outputKept}
 use Rattle.acknowledgment.specs.declared.DroppedPackets.{DroppedPackets}
@@ -97,18 +97,19 @@ module _ (z : Sizes) (s : State) (o : List ℕ) (new : New z s o) (id : ℕ) whe
 
   no-number : (m : ℕ) → m < 65536 → view (slotOf z) (flightOf z (s .acks)) m ≡ none
   no-number m h =
+      let table = tableOf z (s .acks .number) in
+      let at = firstPlace m (numbersIn table) in
       unseen (slotOf z) (flightOf z (s .acks)) m
       (⊎-elim
-      (λ (l : firstPlace m (tableOf z (s .acks .number)) < length (tableOf z (s .acks .number))).
-      let at = first-at m (tableOf z (s .acks .number)) l in
+      (λ (l : firstPlace m (numbersIn (tableOf z (s .acks .number))) < length (tableOf z (s .acks .number))).
       let long = length-take-le (z .«packets_in_flight») (s .acks .number) (kept-new z s o new .acks .lengths .numbers) in
-      let was = getD-take (z .«packets_in_flight») (s .acks .number) (firstPlace m (tableOf z (s .acks .number))) 0 (omega arith) in
-      let is : getD (s .acks .number) (firstPlace m (tableOf z (s .acks .number))) 0 ≡ noNumber =
-      ap (λ (t : List ℕ). getD t (firstPlace m (tableOf z (s .acks .number))) 0) (new .none-in-flight)
-      ∙ getD-replicate (length (s .acks .number)) (firstPlace m (tableOf z (s .acks .number))) noNumber 0 (let y = kept-new z s o new .acks .lengths .numbers in omega arith) in
-      absurd (omega arith))
-      (λ (l : length (tableOf z (s .acks .number)) ≤ firstPlace m (tableOf z (s .acks .number))). l)
-      (lt-or-le (firstPlace m (tableOf z (s .acks .number))) (length (tableOf z (s .acks .number)))))
+      let was = getD-take (z .«packets_in_flight») (s .acks .number) at 0 (omega arith) in
+      let is : getD (s .acks .number) (firstPlace m (numbersIn (tableOf z (s .acks .number)))) 0 ≡ noNumber =
+      ap (λ (t : List ℕ). getD t at 0) (new .none-in-flight)
+      ∙ getD-replicate (length (s .acks .number)) at noNumber 0 (let y = kept-new z s o new .acks .lengths .numbers in omega arith) in
+      absurd (omega (arith, word-at m table l, noNumberIn (getD table at 0) (omega arith))))
+      (λ (l : length (tableOf z (s .acks .number)) ≤ firstPlace m (numbersIn (tableOf z (s .acks .number)))). l)
+      (lt-or-le (firstPlace m (numbersIn (tableOf z (s .acks .number)))) (length (tableOf z (s .acks .number)))))
 
 -- ---- the sender
 
@@ -268,32 +269,35 @@ module _ (l : Pair) (alike : Alike l) where
               ∙ ap (λ (y : List ℕ). some (record { packet = d .sent; payload = y }))
               (sym
               (ap (λ (y : DroppedPackets). take (d .count) (outputKept z y (s .acks) output)) e
-              ∙ take-at (bytesAt (slotOf z) (s .acks .bytes) (firstPlace (d .number .0) (tableOf z (s .acks .number))) (d .count)) (drop (d .count) output) (d .count) size)),
+              ∙ take-at (bytesAt (slotOf z) (s .acks .bytes) (firstPlace (d .number .0) (numbersIn (tableOf z (s .acks .number)))) (d .count)) (drop (d .count) output) (d .count) size)),
         )
 
     -- a further fragment is written
     abbrev FD : ℕ → ℕ → List ℕ
-    FD n j = furtherDatagram z (s .acks .counters) (s .acks .received) (s .acks .number) (s .acks .records) (s .acks .bytes) n j
+    FD n j = furtherDatagram z (s .acks .counters) (s .acks .received) (s .acks .number) (s .acks .bytes) n j
 
     -- its payload is a piece of what is in flight
-    piece-bytes : (n j : ℕ) → hasFurther z (s .acks .number) (s .acks .records) n j ≡ true → ((e : Entry) → views l .flight s n ≡ some e → Bytes (e .payload)) → Bytes (FD n j)
+    piece-bytes : (n j : ℕ) → hasFurther z (s .acks .number) n j ≡ true → ((e : Entry) → views l .flight s n ≡ some e → Bytes (e .payload)) → Bytes (FD n j)
     unfolding hasFurther
     piece-bytes n j q held =
-        let place : firstPlace n (tableOf z (s .acks .number)) < z .«packets_in_flight» = ltb-true (firstPlace n (tableOf z (s .acks .number))) (z .«packets_in_flight») (each _ _ q .0) in
+        let at = firstPlace n (numbersIn (tableOf z (s .acks .number))) in
+        let place : firstPlace n (numbersIn (tableOf z (s .acks .number))) < z .«packets_in_flight» = ltb-true at (z .«packets_in_flight») (each _ _ q .0) in
         let long = length-take-le (z .«packets_in_flight») (s .acks .number) (ok .kept .acks .lengths .numbers) in
-        let b : Bytes (payloadFor z (s .acks .number) (s .acks .records) (s .acks .bytes) n) = held _ (seenAt (slotOf z) (flightOf z (s .acks)) n (firstPlace n (tableOf z (s .acks .number))) refl (omega arith)) in
+        let b : Bytes (payloadFor z (s .acks .number) (s .acks .bytes) n) =
+        subst (λ (w : ℕ). Bytes (bytesAt (slotOf z) (s .acks .bytes) at (lengthOf w))) (getD-take (z .«packets_in_flight») (s .acks .number) at 0 place)
+        (held _ (seenAt (slotOf z) (flightOf z (s .acks)) n at refl (omega arith))) in
         whole (z .version)
-        (furtherHeaders (s .acks .counters) (s .acks .received) (record { 0 = n }) j (needed (lengthOf (getD (s .acks .records) (firstPlace n (tableOf z (s .acks .number))) 0)) (z .«fragment_size»)))
-        (getD (pieces (z .«fragment_size») (payloadFor z (s .acks .number) (s .acks .records) (s .acks .bytes) n)) j [])
+        (furtherHeaders (s .acks .counters) (s .acks .received) (record { 0 = n }) j (needed (lengthOf (getD (s .acks .number) at 0)) (z .«fragment_size»)))
+        (getD (pieces (z .«fragment_size») (payloadFor z (s .acks .number) (s .acks .bytes) n)) j [])
         (subst (λ (y : List ℕ). Bytes y)
-        (sym (piece-at (z .«fragment_size») (payloadFor z (s .acks .number) (s .acks .records) (s .acks .bytes) n) (in-range-means z (ok .range) .f .0) j))
-        (taken (z .«fragment_size») (drop (j * z .«fragment_size») (payloadFor z (s .acks .number) (s .acks .records) (s .acks .bytes) n)) (droppedBytes (j * z .«fragment_size») (payloadFor z (s .acks .number) (s .acks .records) (s .acks .bytes) n) b)))
+        (sym (piece-at (z .«fragment_size») (payloadFor z (s .acks .number) (s .acks .bytes) n) (in-range-means z (ok .range) .f .0) j))
+        (taken (z .«fragment_size») (drop (j * z .«fragment_size») (payloadFor z (s .acks .number) (s .acks .bytes) n)) (droppedBytes (j * z .«fragment_size») (payloadFor z (s .acks .number) (s .acks .bytes) n) b)))
 
     wrote : (n j count : ℕ) → ((e : Entry) → views l .flight s n ≡ some e → Bytes (e .payload)) → fragmentOf (l .sending) s n j output ≡ Fragment count
         → Beyond (l .receiving .version) (l .stream) (take count (fragmentOutput (l .sending) s n j output)) × Bytes (take count (fragmentOutput (l .sending) s n j output))
     unfolding fragmentOf fragmentOutput furtherOf furtherOutput
     wrote n j count held =
-        case (hasFurther z (s .acks .number) (s .acks .records) n j)
+        case (hasFurther z (s .acks .number) n j)
         (λ q.
         rw (gate, q)
         (λ e.

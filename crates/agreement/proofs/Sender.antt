@@ -13,7 +13,7 @@ use Rattle.serial.specs.declared.ItemId.{ItemId}
 use Rattle.terms.specs.declared.Sizes.{Sizes}
 use Rattle.terms.specs.declared.Refusal.{Refusal}
 use Rattle.terms.proofs.Ranges.{in-range-means}
-use Rattle.flight.specs.Entry.{packed}
+use Rattle.flight.specs.Entry.{wordOf, numbersIn, packed}
 use Rattle.flight.specs.Places.{placeOf as placeInFlight, full}
 use Rattle.flight.specs.View.{Flight, view}
 use Rattle.acks.specs.State.{tableOf, slotOf}
@@ -86,8 +86,8 @@ again-id s i q item o t = rw (o, t) refl
 reliable-flight : (z : Sizes) (s : State) (i : Item) (q : Sending) (payload output : List ℕ) (place : ℕ) → q .at ≡ place → i .delivery ≡ Reliable
     → flightOf z (transmittedAs (Send q) z s i payload output .end .acks)
     ≡ record {
-      number = tableOf z (set (s .acks .number) place (s .acks .counters .«sequence_number» .0));
-      records = set (s .acks .records) place (packed (recordOf i (idOf s i q)) (length payload));
+      number = tableOf z (set (s .acks .number) place (wordOf (s .acks .counters .«sequence_number» .0) (length payload)));
+      records = set (s .acks .records) place (packed (recordOf i (idOf s i q)));
       bytes = paste (s .acks .bytes) (place * slotOf z) payload (length payload);
     }
 reliable-flight z s i q payload output place e r = rw (e, r) refl
@@ -171,14 +171,14 @@ module _ (l : Pair) (alike : Alike l) (s : State) (ok : Ok (l .sending) s) (i : 
           → view (slotOf z) (flightOf z (X .end .acks)) m ≡ cond (eqb m (d .number .0)) (some (record { packet = recordOf i ID; payload = payload })) (view (slotOf z) (flightOf z (s .acks)) m)
       stored r m h =
           ap (λ (x : Sent). view (slotOf z) (flightOf z (x .end .acks)) m) (g .is)
-          ∙ ap (λ (x : Flight). view (slotOf z) x m) (reliable-flight z s i (g .q) payload output (placeInFlight local (tableOf z (s .acks .number))) at-is r)
+          ∙ ap (λ (x : Flight). view (slotOf z) x m) (reliable-flight z s i (g .q) payload output (placeInFlight local (numbersIn (tableOf z (s .acks .number)))) at-is r)
           ∙ sent-view z (s .acks) (ok .range) (ok .kept .acks) (recordOf i ID) payload typed roomy few m h
           ∙ ap (λ (x : ℕ). cond (eqb m x) (some (record { packet = recordOf i ID; payload = payload })) (view (slotOf z) (flightOf z (s .acks)) m)) (sym number-is)
         where
-          at-is : g .q .at ≡ placeInFlight local (tableOf z (s .acks .number))
+          at-is : g .q .at ≡ placeInFlight local (numbersIn (tableOf z (s .acks .number)))
           at-is = g .free .at-is ∙ ap (λ (x : DeliveryGuarantee). flightPlace x local (tableOf z (s .acks .number))) r
 
-          roomy : full local (tableOf z (s .acks .number)) ≡ false
+          roomy : full local (numbersIn (tableOf z (s .acks .number))) ≡ false
           roomy = ap (λ (x : DeliveryGuarantee). isFull x local (tableOf z (s .acks .number))) (sym r) ∙ g .free .room
 
       loose : i .delivery ≡ Unreliable → (m : ℕ) → m < 65536 → view (slotOf z) (flightOf z (X .end .acks)) m ≡ view (slotOf z) (flightOf z (s .acks)) m

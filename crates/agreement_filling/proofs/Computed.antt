@@ -16,6 +16,7 @@ use Rattle.serial.specs.Order.{greater as u7}
 use Rattle.sequence_buffer.specs.Buffer.{goes as u8, emptied as u9, advancedSlots as u10, advancedNum as u11, insertedSlots as u12, insertedNum as u13, inserted as u14, removedSlots as u15}
 use Rattle.sequence_buffer.specs.Facts.{called as u16, after as u17}
 use Rattle.received.specs.Field.{fieldOf as u18}
+use Rattle.flight.specs.Entry.{numberIn as u0}
 use Rattle.flight.specs.Acked.{isAcked as u19}
 use Rattle.flight.specs.Lost.{isLost as u20, leastLost as u21, dropOf as u22}
 use Rattle.flight.specs.Places.{countOf as u23, overLong as u24, sound as u25, firstFree as u26, placeOf as u27, othersOf as u28}
@@ -64,7 +65,7 @@ use Rattle.agreement_filling.specs.Filling.{filling, filled, emptying, e
 use Rattle.agreement_setting.proofs.May.{traced, traced-ok}
 
 fresh-is : New sizes (lent freshEnd) out
-unfolding u1 u2 u3 u4 u5 u6 u7 u8 u9 u10 u11 u12 u13 u14 u15 u16 u17 u18 u19 u20 u21 u22 u23 u24 u25 u26 u27 u28 u29 u30 u31 u32 u33 u34 u35 u36 u37 u38 u39 u40 u41 u42 u43 u44 u45 u46 u47 u48 u49 u50 u51 u52 u53 u54 u55 u56 u57 u58 u59 u60 u61 u62 u63 u64 u65 u66 u67 u68 u69 u70 u71 u72 u73 u74 u75 u76 u77 u78 u79 u80 u81 u82 u83 u84 u85 u86 u87 u88 u89 u90 u91 u92 u93 u94 u95 u96 u97 u98 u99 u100 u101 u102 u103 u104 u105 u106 u107 u108 u109 u110 u111 u112 u113 u114 u115 u116 u117 u118 u119 u120 u121 u122 u123 u124 u125 u126 u127 u128 u129 u130 u131 u132 u133
+unfolding u0 u1 u2 u3 u4 u5 u6 u7 u8 u9 u10 u11 u12 u13 u14 u15 u16 u17 u18 u19 u20 u21 u22 u23 u24 u25 u26 u27 u28 u29 u30 u31 u32 u33 u34 u35 u36 u37 u38 u39 u40 u41 u42 u43 u44 u45 u46 u47 u48 u49 u50 u51 u52 u53 u54 u55 u56 u57 u58 u59 u60 u61 u62 u63 u64 u65 u66 u67 u68 u69 u70 u71 u72 u73 u74 u75 u76 u77 u78 u79 u80 u81 u82 u83 u84 u85 u86 u87 u88 u89 u90 u91 u92 u93 u94 u95 u96 u97 u98 u99 u100 u101 u102 u103 u104 u105 u106 u107 u108 u109 u110 u111 u112 u113 u114 u115 u116 u117 u118 u119 u120 u121 u122 u123 u124 u125 u126 u127 u128 u129 u130 u131 u132 u133
 fresh-is = record { sizes = refl; storage = refl; counters = refl; none-received = refl; none-in-flight = refl; no-message = refl }
 
 -- the number that item 65 is told, and in the end what was handed out
@@ -78,7 +79,7 @@ abbrev going : World → Option (ℕ × List (List ℕ))
 going full = traced pair full emptying (ending full)
 
 computed : traced pair (start (lent freshEnd) (lent freshEnd)) filling going ≡ some (6, payloads 66 0)
-unfolding filling emptying latest u1 u2 u3 u4 u5 u6 u7 u8 u9 u10 u11 u12 u13 u14 u15 u16 u17 u18 u19 u20 u21 u22 u23 u24 u25 u26 u27 u28 u29 u30 u31 u32 u33 u34 u35 u36 u37 u38 u39 u40 u41 u42 u43 u44 u45 u46 u47 u48 u49 u50 u51 u52 u53 u54 u55 u56 u57 u58 u59 u60 u61 u62 u63 u64 u65 u66 u67 u68 u69 u70 u71 u72 u73 u74 u75 u76 u77 u78 u79 u80 u81 u82 u83 u84 u85 u86 u87 u88 u89 u90 u91 u92 u93 u94 u95 u96 u97 u98 u99 u100 u101 u102 u103 u104 u105 u106 u107 u108 u109 u110 u111 u112 u113 u114 u115 u116 u117 u118 u119 u120 u121 u122 u123 u124 u125 u126 u127 u128 u129 u130 u131 u132 u133
+unfolding filling emptying latest u0 u1 u2 u3 u4 u5 u6 u7 u8 u9 u10 u11 u12 u13 u14 u15 u16 u17 u18 u19 u20 u21 u22 u23 u24 u25 u26 u27 u28 u29 u30 u31 u32 u33 u34 u35 u36 u37 u38 u39 u40 u41 u42 u43 u44 u45 u46 u47 u48 u49 u50 u51 u52 u53 u54 u55 u56 u57 u58 u59 u60 u61 u62 u63 u64 u65 u66 u67 u68 u69 u70 u71 u72 u73 u74 u75 u76 u77 u78 u79 u80 u81 u82 u83 u84 u85 u86 u87 u88 u89 u90 u91 u92 u93 u94 u95 u96 u97 u98 u99 u100 u101 u102 u103 u104 u105 u106 u107 u108 u109 u110 u111 u112 u113 u114 u115 u116 u117 u118 u119 u120 u121 u122 u123 u124 u125 u126 u127 u128 u129 u130 u131 u132 u133
 computed = refl
 
 pub fills : Fills

@@ -208,7 +208,7 @@ pub fn look(
     let mut output = tables.output;
     let received: &[u32] = &received;
     let number: &[u32] = &number;
-    let records: &[u64] = &records;
+    let records: &[u32] = &records;
     let slots: &[u32] = &slots;
     let entry: &[u64] = &entry;
     let header: &[u64] = &header;

@@ -5,7 +5,7 @@ use ends::End;
 pub struct Tables {
     pub received: [u32; 33],
     pub number: [u32; 256],
-    pub records: [u64; 256],
+    pub records: [u32; 256],
     pub slots: [u32; 8],
     pub entry: [u64; 8],
     pub header: [u64; 8],
@@ -28,7 +28,7 @@ pub fn fresh() -> Run {
         tables: Tables {
             received: [sequence_buffer::NONE; 33],
             number: [sequence_buffer::NONE; 256],
-            records: [0u64; 256],
+            records: [0u32; 256],
             slots: [sequence_buffer::NONE; 8],
             entry: [0u64; 8],
             header: [0u64; 8],

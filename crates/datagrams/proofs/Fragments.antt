@@ -1,12 +1,12 @@
 -- Which fragments a further call writes. Assumes nothing.
-use mathlib.Core.Path.{_≡_, ap, _∙_}
+use mathlib.Core.Path.{_≡_, sym, ap, _∙_}
 use mathlib.Core.Bool.{true, false}
 use mathlib.Core.List.{List, []}
 use Prim.Native.Nat.{ℕ, _+_, _*_, _≤_, _<_}
 use native.Mathlib.Nat.{mul-le-mul}
 use native.Mathlib.Omega.{arith}
 use lib.ListN.{length, getD}
-use lib.Seq.{length-take-le}
+use lib.Seq.{length-take-le, getD-take}
 use borrow.Author.Tests.{lt-ltb, le-ltb}
 use Rattle.laws.proofs.Slots.{slot-end, part-length}
 use Rattle.terms.specs.declared.Sizes.{Sizes}
@@ -15,8 +15,10 @@ use Rattle.ends.proofs.Opened.{Opened}
 use Rattle.serial.specs.declared.PacketNumber.{PacketNumber}
 use Rattle.acks.specs.State.{tableOf, slotOf}
 use Rattle.acks.specs.declared.Acknowledgment.{Acknowledgment}
-use Rattle.flight.specs.Entry.{lengthOf, bytesAt}
-use Rattle.flight.proofs.Found.{first-at, fits-at}
+use Rattle.flight.specs.Entry.{numberIn, lengthOf, bytesAt}
+use Rattle.flight.proofs.Found.{fits-at}
+use Rattle.flight.proofs.Viewed.{word-at}
+use Rattle.flight.proofs.Words.{is-number}
 use Rattle.splitter.specs.Split.{needed, pieces}
 use Rattle.splitter.proofs.Pieces.{piece-at}
 use Rattle.packet_table.specs.Table.{follows}
@@ -28,7 +30,7 @@ use Rattle.datagrams.specs.Further.{placeFor, fragmentStandard, furtherH
 use Rattle.datagrams.specs.declared.further.Further.the-variants.{Datagram, Nothing}
 use Rattle.datagrams.proofs.Fits.{at-most, payload-at-most, take-most}
 
-module _ (z : Sizes) (c : Acknowledgment) (received number records bytes : List ℕ) (n j : ℕ) where
+module _ (z : Sizes) (c : Acknowledgment) (received number bytes : List ℕ) (n j : ℕ) where
   abbrev F : ℕ
   F = z .«fragment_size»
 
@@ -39,45 +41,45 @@ module _ (z : Sizes) (c : Acknowledgment) (received number records bytes : List 
   Place = placeFor z number n
 
   abbrev Length : ℕ
-  Length = lengthOf (getD records Place 0)
+  Length = lengthOf (getD number Place 0)
 
-  not-there : N ≤ Place → hasFurther z number records n j ≡ false
+  not-there : N ≤ Place → hasFurther z number n j ≡ false
   unfolding hasFurther
   not-there h = rw (le-ltb _ _ h)
 
-  not-over : Place < N → Length ≤ F → hasFurther z number records n j ≡ false
+  not-over : Place < N → Length ≤ F → hasFurther z number n j ≡ false
   unfolding hasFurther
   not-over p h = rw (lt-ltb _ _ p, le-ltb _ _ h)
 
-  not-one : Place < N → F < Length → needed Length F ≤ j → hasFurther z number records n j ≡ false
+  not-one : Place < N → F < Length → needed Length F ≤ j → hasFurther z number n j ≡ false
   unfolding hasFurther
   not-one p o h = rw (lt-ltb _ _ p, lt-ltb _ _ o, le-ltb _ _ h)
 
-  is-one : Place < N → F < Length → j < needed Length F → hasFurther z number records n j ≡ true
+  is-one : Place < N → F < Length → j < needed Length F → hasFurther z number n j ≡ true
   unfolding hasFurther
   is-one p o h = rw (lt-ltb _ _ p, lt-ltb _ _ o, lt-ltb _ _ h)
 
-  nothing : hasFurther z number records n j ≡ false → (output : List ℕ)
-      → (Nothing ≡ furtherOf z c received number records bytes n j) × (output ≡ furtherOutput z c received number records bytes n j output)
+  nothing : hasFurther z number n j ≡ false → (output : List ℕ)
+      → (Nothing ≡ furtherOf z c received number bytes n j) × (output ≡ furtherOutput z c received number bytes n j output)
   unfolding furtherOf furtherOutput
   nothing e output = (rw e, rw e)
 
   pub none-there : N ≤ Place → (output : List ℕ)
-      → (Nothing ≡ furtherOf z c received number records bytes n j) × (output ≡ furtherOutput z c received number records bytes n j output)
+      → (Nothing ≡ furtherOf z c received number bytes n j) × (output ≡ furtherOutput z c received number bytes n j output)
   none-there h = nothing (not-there h)
 
   pub none-over : Place < N → Length ≤ F → (output : List ℕ)
-      → (Nothing ≡ furtherOf z c received number records bytes n j) × (output ≡ furtherOutput z c received number records bytes n j output)
+      → (Nothing ≡ furtherOf z c received number bytes n j) × (output ≡ furtherOutput z c received number bytes n j output)
   none-over p h = nothing (not-over p h)
 
   pub none-left : Place < N → F < Length → needed Length F ≤ j → (output : List ℕ)
-      → (Nothing ≡ furtherOf z c received number records bytes n j) × (output ≡ furtherOutput z c received number records bytes n j output)
+      → (Nothing ≡ furtherOf z c received number bytes n j) × (output ≡ furtherOutput z c received number bytes n j output)
   none-left p o h = nothing (not-one p o h)
 
   -- place, length and number of fragments as the code has them
   pub written : (at count total : ℕ) (h : Headers) (piece output : List ℕ) (long : ℕ) (after : List ℕ)
       → at ≡ Place
-      → count ≡ lengthOf (getD records at 0)
+      → count ≡ lengthOf (getD number at 0)
       → total ≡ needed count F
       → h ≡ furtherHeaders c received (record { 0 = n }) j total
       → piece ≡ getD (pieces F (bytesAt (slotOf z) bytes at count)) j []
@@ -85,12 +87,12 @@ module _ (z : Sizes) (c : Acknowledgment) (received number records bytes : List 
       → F < count
       → j < total
       → Writes (datagram (z .version) h piece) output long after
-      → (Datagram long ≡ furtherOf z c received number records bytes n j) × (after ≡ furtherOutput z c received number records bytes n j output)
+      → (Datagram long ≡ furtherOf z c received number bytes n j) × (after ≡ furtherOutput z c received number bytes n j output)
   unfolding furtherOf furtherOutput
   written at count total h piece output long after ea ec et eh ep p o l w =
-      let length-is : count ≡ Length = ec ∙ ap (λ (k : ℕ). lengthOf (getD records k 0)) ea in
+      let length-is : count ≡ Length = ec ∙ ap (λ (k : ℕ). lengthOf (getD number k 0)) ea in
       let total-is : total ≡ needed Length F = et ∙ ap (λ (k : ℕ). needed k F) length-is in
-      let same : datagram (z .version) h piece ≡ furtherDatagram z c received number records bytes n j = rw (eh, ep, total-is, length-is, ea) in
+      let same : datagram (z .version) h piece ≡ furtherDatagram z c received number bytes n j = rw (eh, ep, total-is, length-is, ea) in
       let there = is-one (omega (arith, ea, p)) (omega (arith, length-is, o)) (omega (arith, total-is, l)) in
       (rw (there, ← same, w .length-is), rw (there, ← same) (w .output-is))
 
@@ -107,13 +109,15 @@ pub record Slot (z : Sizes) (bytes : List ℕ) (at count : ℕ) : Type 0 where
   pub few : needed count (z .«fragment_size») ≤ 16
 
 module _ (z : Sizes) (s : State) (output : List ℕ) (g : Opened z s output) (n at count : ℕ) (small : n < 65536)
-    (ea : at ≡ placeFor z (s .acks .number) n) (there : at < z .«packets_in_flight») (ec : count ≡ lengthOf (getD (s .acks .records) at 0)) where
+    (ea : at ≡ placeFor z (s .acks .number) n) (there : at < z .«packets_in_flight») (ec : count ≡ lengthOf (getD (s .acks .number) at 0)) where
   holds : count ≤ slotOf z
   holds =
       let table = tableOf z (s .acks .number) in
       let within : at < length table = omega (arith, whole z s output g, there) in
-      let number : getD table at 0 ≡ n = rw ea (first-at n table (omega (arith, ea, within))) in
-      rw ec (fits-at (slotOf z) table (s .acks .records) at (g .flight .fits) within (omega (arith, within, g .flight .recorded)) (omega (arith, small, number)))
+      let number : numberIn (getD table at 0) ≡ n = rw ea (word-at n table (omega (arith, ea, within))) in
+      let in-flight = is-number (getD table at 0) (omega (arith, small, number)) in
+      let word : getD table at 0 ≡ getD (s .acks .number) at 0 = getD-take (z .«packets_in_flight») (s .acks .number) at 0 there in
+      rw (ec, sym word) (fits-at (slotOf z) table at (g .flight .fits) within in-flight)
 
   pub in-slot : Slot z (s .acks .bytes) at count
   in-slot =

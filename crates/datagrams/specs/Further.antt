@@ -9,7 +9,7 @@ use Rattle.keys.specs.Keys.{firstPlace}
 use Rattle.serial.specs.declared.PacketNumber.{PacketNumber}
 use Rattle.terms.specs.Refusals.{numberOf}
 use Rattle.terms.specs.declared.Sizes.{Sizes}
-use Rattle.flight.specs.Entry.{lengthOf, bytesAt}
+use Rattle.flight.specs.Entry.{numbersIn, lengthOf, bytesAt}
 use Rattle.acks.specs.State.{tableOf, slotOf}
 use Rattle.acks.specs.declared.Acknowledgment.{Acknowledgment}
 use Rattle.splitter.specs.Split.{needed, pieces}
@@ -42,30 +42,30 @@ furtherHeaders c received number j total =
 
 -- where a packet is in flight, and its payload
 abbrev pub placeFor : Sizes → List ℕ → ℕ → ℕ
-placeFor z number n = firstPlace n (tableOf z number)
+placeFor z number n = firstPlace n (numbersIn (tableOf z number))
 
-abbrev pub payloadFor : Sizes → List ℕ → List ℕ → List ℕ → ℕ → List ℕ
-payloadFor z number records bytes n = bytesAt (slotOf z) bytes (placeFor z number n) (lengthOf (getD records (placeFor z number n) 0))
+abbrev pub payloadFor : Sizes → List ℕ → List ℕ → ℕ → List ℕ
+payloadFor z number bytes n = bytesAt (slotOf z) bytes (placeFor z number n) (lengthOf (getD number (placeFor z number n) 0))
 
-abbrev pub furtherDatagram : Sizes → Acknowledgment → List ℕ → List ℕ → List ℕ → List ℕ → ℕ → ℕ → List ℕ
-furtherDatagram z c received number records bytes n j =
-    datagram (z .version) (furtherHeaders c received (record { 0 = n }) j (needed (lengthOf (getD records (placeFor z number n) 0)) (z .«fragment_size»)))
-    (getD (pieces (z .«fragment_size») (payloadFor z number records bytes n)) j [])
+abbrev pub furtherDatagram : Sizes → Acknowledgment → List ℕ → List ℕ → List ℕ → ℕ → ℕ → List ℕ
+furtherDatagram z c received number bytes n j =
+    datagram (z .version) (furtherHeaders c received (record { 0 = n }) j (needed (lengthOf (getD number (placeFor z number n) 0)) (z .«fragment_size»)))
+    (getD (pieces (z .«fragment_size») (payloadFor z number bytes n)) j [])
 
 -- the packet is in flight, its payload is over F, and it has a fragment j
-unfoldable pub hasFurther : Sizes → List ℕ → List ℕ → ℕ → ℕ → Bool
-hasFurther z number records n j =
+unfoldable pub hasFurther : Sizes → List ℕ → ℕ → ℕ → Bool
+hasFurther z number n j =
     ltb (placeFor z number n) (z .«packets_in_flight»)
-    && (ltb (z .«fragment_size») (lengthOf (getD records (placeFor z number n) 0))
-    && ltb j (needed (lengthOf (getD records (placeFor z number n) 0)) (z .«fragment_size»)))
+    && (ltb (z .«fragment_size») (lengthOf (getD number (placeFor z number n) 0))
+    && ltb j (needed (lengthOf (getD number (placeFor z number n) 0)) (z .«fragment_size»)))
 
-unfoldable pub furtherOf : Sizes → Acknowledgment → List ℕ → List ℕ → List ℕ → List ℕ → ℕ → ℕ → Further
-furtherOf z c received number records bytes n j =
-    cond (hasFurther z number records n j) (Datagram (length (furtherDatagram z c received number records bytes n j))) Nothing
+unfoldable pub furtherOf : Sizes → Acknowledgment → List ℕ → List ℕ → List ℕ → ℕ → ℕ → Further
+furtherOf z c received number bytes n j =
+    cond (hasFurther z number n j) (Datagram (length (furtherDatagram z c received number bytes n j))) Nothing
 
-unfoldable pub furtherOutput : Sizes → Acknowledgment → List ℕ → List ℕ → List ℕ → List ℕ → ℕ → ℕ → List ℕ → List ℕ
-furtherOutput z c received number records bytes n j output =
-    cond (hasFurther z number records n j) (over (furtherDatagram z c received number records bytes n j) output) output
+unfoldable pub furtherOutput : Sizes → Acknowledgment → List ℕ → List ℕ → List ℕ → ℕ → ℕ → List ℕ → List ℕ
+furtherOutput z c received number bytes n j output =
+    cond (hasFurther z number n j) (over (furtherDatagram z c received number bytes n j) output) output
 
 -- 01's number for each answer, 0 where nothing is refused
 abbrev pub numberOfFurther : Further → ℕ

@@ -42,7 +42,7 @@ pub fn fragment(
     end: End,
     received: &[u32],
     number: &[u32],
-    records: &[u64],
+    records: &[u32],
     payloads: &[u8],
     slots: &[u32],
     entry: &[u64],
@@ -58,8 +58,8 @@ pub fn fragment(
     lapped: bool,
 ) -> Further
     requires { ⌜ (gateOf sizes (lending end (now received) (now number) (now records) (now payloads) (now slots) (now entry) (now header) (now joined) (now index) (now lengths) (now held)) (now output) ≡ Open) × KnownHome home (tableOf sizes (now number)) × KnownLapped lapped (now received) ⌝ }
-    ensures { λ r. ⌜ r ≡ furtherOf sizes (end .acks) (now (received .entry)) (now (number .entry)) (now (records .entry)) (now (payloads .entry)) (packet .0) j ⌝ }
-    ensures { λ _. ⌜ now (output .exit) ≡ furtherOutput sizes (end .acks) (now (received .entry)) (now (number .entry)) (now (records .entry)) (now (payloads .entry)) (packet .0) j (now (output .entry)) ⌝ }
+    ensures { λ r. ⌜ r ≡ furtherOf sizes (end .acks) (now (received .entry)) (now (number .entry)) (now (payloads .entry)) (packet .0) j ⌝ }
+    ensures { λ _. ⌜ now (output .exit) ≡ furtherOutput sizes (end .acks) (now (received .entry)) (now (number .entry)) (now (payloads .entry)) (packet .0) j (now (output .entry)) ⌝ }
 {
     let f = sizes.fragment_size;
     let n = sizes.packets_in_flight;
@@ -67,7 +67,7 @@ pub fn fragment(
     if at == n {
         return Further::Nothing;
     }
-    let count = flight::entry::payload_length(records[at]);
+    let count = flight::entry::payload_length(number[at]);
     if count <= f {
         return Further::Nothing;
     }

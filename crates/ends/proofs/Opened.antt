@@ -39,7 +39,7 @@ pub record Stored (z : Sizes) (s : State) (output : List ℕ) : Type 0 where
 
 -- not 13, module by module
 pub record AllSound (z : Sizes) (s : State) : Type 0 where
-  pub acks : acksSound z (s .acks .received) (s .acks .number) (s .acks .records) ≡ true
+  pub acks : acksSound z (s .acks .received) (s .acks .number) ≡ true
   pub parts : partsSound (z .«fragment_size») (take (z .«reassembly_slots») (s .parts .slots)) (s .parts .entry) ≡ true
   pub ordered : soundAll (z .«fragment_size») (s .ordered .counters) (s .ordered .index) (s .ordered .lengths) ≡ true
   pub sequenced : soundIds (s .sequenced .known) ≡ true
@@ -58,7 +58,7 @@ stored-means z s output e =
 pub all-sound : (z : Sizes) (s : State) → isSound z s ≡ true → AllSound z s
 unfolding isSound
 all-sound z s e =
-    let p = each (acksSound z (s .acks .received) (s .acks .number) (s .acks .records)) _ e in
+    let p = each (acksSound z (s .acks .received) (s .acks .number)) _ e in
     let q = each (partsSound (z .«fragment_size») (take (z .«reassembly_slots») (s .parts .slots)) (s .parts .entry)) _ (p .1) in
     let r = each (soundAll (z .«fragment_size») (s .ordered .counters) (s .ordered .index) (s .ordered .lengths)) _ (q .1) in
     record { acks = p .0; parts = q .0; ordered = r .0; sequenced = r .1 }
@@ -91,7 +91,7 @@ pub record Opened (z : Sizes) (s : State) (output : List ℕ) : Type 0 where
   pub records-room : z .«packets_in_flight» ≤ length (s .acks .records)
   pub payloads-room : z .«packets_in_flight» * (16 * z .«fragment_size») ≤ length (s .acks .bytes)
   pub flight : Table (16 * z .«fragment_size») (take (z .«packets_in_flight») (s .acks .number)) (s .acks .records) (s .acks .bytes)
-  pub flight-sound : flightSound (16 * z .«fragment_size») (take (z .«packets_in_flight») (s .acks .number)) (s .acks .records) ≡ true
+  pub flight-sound : flightSound (16 * z .«fragment_size») (take (z .«packets_in_flight») (s .acks .number)) ≡ true
   pub once-received : twice (slotsOf (s .acks .received)) ≡ false
   pub slots-room : z .«reassembly_slots» ≤ length (s .parts .slots)
   pub parts : Room (z .«fragment_size») (stated (z .«reassembly_slots») (s .parts)) output
@@ -115,10 +115,10 @@ module _ (z : Sizes) (s : State) (output : List ℕ) where
         few = rw e (r .n .1);
         recorded = rw e (t .acks .recorded);
         slots = rw e (t .acks .room);
-        fits = sound-means z (s .acks .received) (s .acks .number) (s .acks .records) (h .acks) .fits;
+        fits = sound-means z (s .acks .received) (s .acks .number) (h .acks) .fits;
       }
 
-  flight-once : AllSound z s → flightSound (16 * F) (take N (s .acks .number)) (s .acks .records) ≡ true
+  flight-once : AllSound z s → flightSound (16 * F) (take N (s .acks .number)) ≡ true
   unfolding acksSound
   flight-once h = each (not (twice (slotsOf (s .acks .received)))) _ (h .acks) .1
 
@@ -143,7 +143,7 @@ module _ (z : Sizes) (s : State) (output : List ℕ) where
         payloads-room = t .acks .room;
         flight = flight-table r t h;
         flight-sound = flight-once h;
-        once-received = sound-means z (s .acks .received) (s .acks .number) (s .acks .records) (h .acks) .once-received;
+        once-received = sound-means z (s .acks .received) (s .acks .number) (h .acks) .once-received;
         slots-room = t .parts .slots-c;
         parts = parts-room r t h;
         ordered = long-room F (s .ordered) output (r .f .1) (t .ordered) (h .ordered);

@@ -50,9 +50,9 @@ unfolding twice
 none-twice = refl
 
 -- where nothing is received, what is in flight is all
-pub none-received : (z : Sizes) (number records : List ℕ) → acksSound z [] number records ≡ flightSound (slotOf z) (tableOf z number) records
+pub none-received : (z : Sizes) (number : List ℕ) → acksSound z [] number ≡ flightSound (slotOf z) (tableOf z number)
 unfolding acksSound
-none-received z number records = rw none-twice
+none-received z number = rw none-twice
 
 regroup : (a b c : Bool) → (a && b) && c ≡ a && (b && c)
 regroup true b c = refl
@@ -64,7 +64,7 @@ and-no false = refl
 
 module _ (z : Sizes) (s : State) where
   abbrev AcksSound : Bool
-  AcksSound = acksSound z (s .acks .received) (s .acks .number) (s .acks .records)
+  AcksSound = acksSound z (s .acks .received) (s .acks .number)
 
   abbrev PartsSound : Bool
   PartsSound = partsSound (z .«fragment_size») (take (z .«reassembly_slots») (s .parts .slots)) (s .parts .entry)
@@ -93,7 +93,7 @@ module _ (z : Sizes) (s : State) where
   RecordSound = not (twice (slotsOf (s .acks .received)))
 
   abbrev pub RestSound : Bool
-  RestSound = isSound z (lending (countersOf s) [] (s .acks .number) (s .acks .records) [] (s .parts .slots) (s .parts .entry) [] [] (s .ordered .index) (s .ordered .lengths) [])
+  RestSound = isSound z (lending (countersOf s) [] (s .acks .number) [] [] (s .parts .slots) (s .parts .entry) [] [] (s .ordered .index) (s .ordered .lengths) [])
 
   record-apart : isSound z s ≡ RecordSound && RestSound
   unfolding isSound acksSound

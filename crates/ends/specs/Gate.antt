@@ -26,7 +26,7 @@ isLent z s output =
 -- not 13: packets received and in flight, messages, ordered streams, sequenced streams
 unfoldable pub isSound : Sizes → State → Bool
 isSound z s =
-    acksSound z (s .acks .received) (s .acks .number) (s .acks .records)
+    acksSound z (s .acks .received) (s .acks .number)
     && (partsSound (z .«fragment_size») (take (z .«reassembly_slots») (s .parts .slots)) (s .parts .entry)
     && (soundAll (z .«fragment_size») (s .ordered .counters) (s .ordered .index) (s .ordered .lengths)
     && soundIds (s .sequenced .known)))

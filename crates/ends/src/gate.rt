@@ -21,7 +21,7 @@ pub fn check(
     end: End,
     received: &[u32],
     number: &[u32],
-    records: &[u64],
+    records: &[u32],
     payloads: &[u8],
     slots: &[u32],
     entry: &[u64],
@@ -68,7 +68,7 @@ pub fn look(
     end: End,
     received: &[u32],
     number: &[u32],
-    records: &[u64],
+    records: &[u32],
     payloads: &[u8],
     slots: &[u32],
     entry: &[u64],
@@ -103,18 +103,8 @@ pub fn look(
     ) {
         return shut(Refusal::BadStorage);
     }
-    let home = is_home(sizes, end, number, records);
-    if !is_sound(
-        sizes,
-        end,
-        number,
-        records,
-        slots,
-        entry,
-        index,
-        lengths,
-        home,
-    ) {
+    let home = is_home(sizes, end, number);
+    if !is_sound(sizes, end, number, slots, entry, index, lengths, home) {
         return shut(Refusal::BadState);
     }
     let lapped = acks::home::is_lapped(received);
@@ -146,12 +136,12 @@ fn shut(why: Refusal) -> Checked
 
 // Each packet in flight is at its own place, by the number of the next packet. Requires sizes in range, and columns as long
 // as stated.
-fn is_home(sizes: Sizes, end: End, number: &[u32], records: &[u64]) -> bool
-    requires { ⌜ (inRange sizes ≡ true) × (sizes .«packets_in_flight» ≤ length (now number)) × (sizes .«packets_in_flight» ≤ length (now records)) ⌝ }
-    ensures { λ r. ⌜ (r ≡ true → AtHome (slotOf sizes) (tableOf sizes (now (number .entry))) (now (records .entry))) ⌝ }
+fn is_home(sizes: Sizes, end: End, number: &[u32]) -> bool
+    requires { ⌜ (inRange sizes ≡ true) × (sizes .«packets_in_flight» ≤ length (now number)) ⌝ }
+    ensures { λ r. ⌜ (r ≡ true → AtHome (slotOf sizes) (tableOf sizes (now (number .entry)))) ⌝ }
 {
     let acks = end.acks;
-    acks::home::is_home(sizes, acks.sequence_number, number, records)
+    acks::home::is_home(sizes, acks.sequence_number, number)
 }
 
 // Nothing that is lent is shorter than stated, whatever the counters. For the crates above: requires sizes in range.
@@ -159,7 +149,7 @@ pub fn is_lent(
     sizes: Sizes,
     received: &[u32],
     number: &[u32],
-    records: &[u64],
+    records: &[u32],
     payloads: &[u8],
     slots: &[u32],
     entry: &[u64],
@@ -190,17 +180,16 @@ fn is_sound(
     sizes: Sizes,
     end: End,
     number: &[u32],
-    records: &[u64],
     slots: &[u32],
     entry: &[u64],
     index: &[u32],
     lengths: &[u16],
     home: bool,
 ) -> bool
-    requires { ⌜ (inRange sizes ≡ true) × (sizes .«packets_in_flight» ≤ length (now number)) × (sizes .«packets_in_flight» ≤ length (now records)) × (sizes .«reassembly_slots» ≤ length (now slots)) × (sizes .«reassembly_slots» ≤ length (now entry)) × (256 ≤ length (now index)) × (256 ≤ length (now lengths)) × (home ≡ true → AtHome (slotOf sizes) (tableOf sizes (now number)) (now records)) ⌝ }
-    ensures { λ r. ⌜ r ≡ isSound sizes (lending end [] (now (number .entry)) (now (records .entry)) [] (now (slots .entry)) (now (entry .entry)) [] [] (now (index .entry)) (now (lengths .entry)) []) ⌝ }
+    requires { ⌜ (inRange sizes ≡ true) × (sizes .«packets_in_flight» ≤ length (now number)) × (sizes .«reassembly_slots» ≤ length (now slots)) × (sizes .«reassembly_slots» ≤ length (now entry)) × (256 ≤ length (now index)) × (256 ≤ length (now lengths)) × (home ≡ true → AtHome (slotOf sizes) (tableOf sizes (now number))) ⌝ }
+    ensures { λ r. ⌜ r ≡ isSound sizes (lending end [] (now (number .entry)) [] [] (now (slots .entry)) (now (entry .entry)) [] [] (now (index .entry)) (now (lengths .entry)) []) ⌝ }
 {
-    if !acks::home::is_flight_sound(sizes, number, records, home) {
+    if !acks::home::is_flight_sound(sizes, number, home) {
         return false;
     }
     let f = sizes.fragment_size;

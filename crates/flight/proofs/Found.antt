@@ -13,6 +13,7 @@ use lib.Dec.{ltb, eqb}
 use borrow.Author.Tests.{lt-ltb, eq-eqb, ne-eqb, eqb-true, eqb-false}
 use Rattle.laws.proofs.Cases.{case, both, lt-or-le}
 use mathlib.Core.Logic.{_⊎_, inl, inr, ⊎-elim}
+use Rattle.key_parts.specs.Words.{noPacket}
 use Rattle.keys.specs.Keys.{firstPlace}
 use Rattle.flight.specs.Entry.{lengthOf}
 use Rattle.flight.specs.Places.{overLong}
@@ -58,27 +59,20 @@ least-found remote (x ∷ l) h =
     (λ q. rw (first-later (leastLost remote (x ∷ l)) x l apart, q) (suc-le-suc (least-found remote l (rw q at h))))
     (least-of remote x l))
 
-over-here : (room x : ℕ) (xs : List ℕ) (w : ℕ) (ws : List ℕ) → x < 65536 → room < lengthOf w → overLong room (x ∷ xs) (w ∷ ws) ≡ true
+over-here : (room w : ℕ) (ws : List ℕ) → w < noPacket → room < lengthOf w → overLong room (w ∷ ws) ≡ true
 unfolding overLong
-over-here room x xs w ws v l = rw (lt-ltb x 65536 v, lt-ltb room (lengthOf w) l)
+over-here room w ws v l = rw (lt-ltb w noPacket v, lt-ltb room (lengthOf w) l)
 
-over-later : (room x : ℕ) (xs : List ℕ) (w : ℕ) (ws : List ℕ) → overLong room xs ws ≡ true → overLong room (x ∷ xs) (w ∷ ws) ≡ true
+over-later : (room w : ℕ) (ws : List ℕ) → overLong room ws ≡ true → overLong room (w ∷ ws) ≡ true
 unfolding overLong
-over-later room x xs w ws q = rw (q, or-true)
+over-later room w ws q = rw (q, or-true)
 
-pub fits-at : (room : ℕ) (number records : List ℕ) (at : ℕ)
-    → overLong room number records ≡ false
-    → at < length number
-    → at < length records
-    → getD number at 0 < 65536
-    → lengthOf (getD records at 0) ≤ room
-fits-at room [] ws at e h k v = absurd (not-suc-le-zero h)
-fits-at room (x ∷ xs) [] at e h k v = absurd (not-suc-le-zero k)
-fits-at room (x ∷ xs) (w ∷ ws) zero e h k v =
-    ⊎-elim (λ l. both (over-here room x xs w ws v l) e) (λ l. l) (lt-or-le room (lengthOf w))
-fits-at room (x ∷ xs) (w ∷ ws) (suc at) e h k v =
-    fits-at room xs ws at
-    (case (overLong room xs ws) (λ q. both (over-later room x xs w ws q) e) (λ q. q))
-    (le-of-suc-le-suc h)
-    (le-of-suc-le-suc k)
-    v
+pub fits-at : (room : ℕ) (words : List ℕ) (at : ℕ)
+    → overLong room words ≡ false
+    → at < length words
+    → getD words at 0 < noPacket
+    → lengthOf (getD words at 0) ≤ room
+fits-at room [] at e h v = absurd (not-suc-le-zero h)
+fits-at room (w ∷ ws) zero e h v = ⊎-elim (λ l. both (over-here room w ws v l) e) (λ l. l) (lt-or-le room (lengthOf w))
+fits-at room (w ∷ ws) (suc at) e h v =
+    fits-at room ws at (case (overLong room ws) (λ q. both (over-later room w ws q) e) (λ q. q)) (le-of-suc-le-suc h) v

@@ -6,13 +6,14 @@ use mathlib.Core.Option.{none, some}
 use Prim.Native.Nat.{ℕ, zero, suc, _≤_, _<_}
 use native.Mathlib.Nat.{not-suc-le-zero, le-of-suc-le-suc}
 use native.Mathlib.Omega.{arith}
-use lib.ListN.{length, getD, length-set}
+use lib.ListN.{length, getD, set, length-set}
+use lib.Seq.{getD-set-other}
 use lib.Dec.{ltb, eqb}
 use borrow.Author.Tests.{ltb-true, ltb-false, eqb-true, eqb-false}
 use Rattle.laws.proofs.Cases.{case, both}
 use Rattle.keys.specs.Keys.{firstPlace, twice}
 use Rattle.sequence_buffer.specs.Buffer.{none as noNumber}
-use Rattle.flight.specs.Entry.{packetOf, lengthOf, bytesAt}
+use Rattle.flight.specs.Entry.{numbersIn, packetOf, lengthOf, bytesAt}
 use Rattle.flight.specs.Places.{countOf}
 use Rattle.flight.specs.Lost.{isLost, leastLost, dropOf}
 use Rattle.flight.specs.View.{Flight, inFlight, view, without, Sound, distinctOf, FlightFacts}
@@ -21,7 +22,8 @@ use Rattle.flight.specs.declared.lost.Drop.the-variants.{Nothing, Packet
 use Rattle.flight.proofs.Found.{first-at, least-found}
 use Rattle.flight.proofs.Firsts.{first-put-other, first-out, once, rest-once}
 use Rattle.flight.proofs.Stays.{sound-once, stays-acked, stays-dropped, stays-stored}
-use Rattle.flight.proofs.Viewed.{seen, unseen, alike, acked-seen, stored-seen}
+use Rattle.flight.proofs.Viewed.{seen, unseen, alike, same-word, acked-seen, stored-seen}
+use Rattle.flight.proofs.Words.{numbers-length, numbers-out}
 
 least-cons : (remote x : ℕ) (l : List ℕ) → leastLost remote (x ∷ l) ≡ cond (ltb x (leastLost remote l) && isLost remote x) x (leastLost remote l)
 unfolding leastLost
@@ -53,83 +55,92 @@ least-le remote m (x ∷ l) (suc j) h e lost =
     below x y b = case (ltb x y) (λ q. rw q (λ z. ltb-true x y q)) (λ q. rw q (λ z. both {b = false} z refl))
 
 -- what an answer says of the least
-module _ (remote : ℕ) (number records : List ℕ) where
-  abbrev word : ℕ
-  word = getD records (firstPlace (leastLost remote number) number) 0
+module _ (remote : ℕ) (words records : List ℕ) where
+  abbrev least : ℕ
+  least = leastLost remote (numbersIn words)
+
+  abbrev place : ℕ
+  place = firstPlace least (numbersIn words)
 
   abbrev answer : Dropped
-  answer = record { number = record { 0 = leastLost remote number }; sent = packetOf word; count = lengthOf word }
+  answer = record { number = record { 0 = least }; sent = packetOf (getD records place 0); count = lengthOf (getD words place 0) }
 
-  drop-means : (d : Dropped) → dropOf remote number records ≡ Packet d → (leastLost remote number < 65536) × (answer ≡ d)
+  pub drop-means : (d : Dropped) → dropOf remote words records ≡ Packet d → (leastLost remote (numbersIn words) < 65536) × (_≡_ {A = Dropped} (record { number = record { 0 = leastLost remote (numbersIn words) }; sent = packetOf (getD records (firstPlace (leastLost remote (numbersIn words)) (numbersIn words)) 0); count = lengthOf (getD words (firstPlace (leastLost remote (numbersIn words)) (numbersIn words)) 0) }) d)
   unfolding dropOf
   drop-means d =
-      case (ltb (leastLost remote number) 65536)
-      (λ q. rw q (λ e. (ltb-true (leastLost remote number) 65536 q, cc)))
+      case (ltb least 65536)
+      (λ q. rw q (λ e. (ltb-true least 65536 q, cc)))
       (λ q. rw q (λ e. absurd (let z : _≡_ {A = ℕ} 0 1 = cc in omega arith)))
 
-  nothing-means : dropOf remote number records ≡ Nothing → 65536 ≤ leastLost remote number
+  nothing-means : dropOf remote words records ≡ Nothing → 65536 ≤ leastLost remote (numbersIn words)
   unfolding dropOf
   nothing-means =
-      case (ltb (leastLost remote number) 65536)
+      case (ltb least 65536)
       (λ q. rw q (λ e. absurd (let z : _≡_ {A = ℕ} 0 1 = cc in omega arith)))
-      (λ q e. ltb-false (leastLost remote number) 65536 q)
+      (λ q e. ltb-false least 65536 q)
 
 -- a number that is in flight stands at its first place
-stands : (f : Flight) (m : ℕ) → inFlight f m ≡ true → firstPlace m (f .number) < length (f .number)
+stands : (f : Flight) (m : ℕ) → inFlight f m ≡ true → firstPlace m (numbersIn (f .number)) < length (numbersIn (f .number))
 unfolding inFlight
-stands f m e = ltb-true (firstPlace m (f .number)) (length (f .number)) e
+stands f m e = rw (numbers-length (f .number)) (ltb-true (firstPlace m (numbersIn (f .number))) (length (f .number)) e)
 
 module _ (f : Flight) (remote : ℕ) where
+  abbrev keys : List ℕ
+  keys = numbersIn (f .number)
+
   nothing-lost : dropOf remote (f .number) (f .records) ≡ Nothing → (m : ℕ) → m < 65536 → inFlight f m ≡ true → isLost remote m ≡ false
   nothing-lost e m v i =
       case (isLost remote m)
       (λ q.
       let h = stands f m i in
-      absurd (omega (arith, least-le remote m (f .number) (firstPlace m (f .number)) h (first-at m (f .number) h) q, nothing-means remote (f .number) (f .records) e)))
+      absurd (omega (arith, least-le remote m keys (firstPlace m keys) h (first-at m keys h) q, nothing-means remote (f .number) (f .records) e)))
       (λ q. q)
 
   module _ (d : Dropped) (e : dropOf remote (f .number) (f .records) ≡ Packet d) where
-    is-least : d .number .0 ≡ leastLost remote (f .number)
+    is-least : d .number .0 ≡ leastLost remote keys
     is-least = sym (ap (λ (x : Dropped). x .number .0) (drop-means remote (f .number) (f .records) d e .1))
 
     is-number : d .number .0 < 65536
     is-number = rw is-least (drop-means remote (f .number) (f .records) d e .0)
 
-    within : firstPlace (d .number .0) (f .number) < length (f .number)
-    within = rw is-least (least-found remote (f .number) (drop-means remote (f .number) (f .records) d e .0))
+    within : firstPlace (d .number .0) (numbersIn (f .number)) < length (numbersIn (f .number))
+    within = rw is-least (least-found remote keys (drop-means remote (f .number) (f .records) d e .0))
 
     pub lost-one : isLost remote (d .number .0) ≡ true
-    lost-one = rw is-least (least-lost remote (f .number) (drop-means remote (f .number) (f .records) d e .0))
+    lost-one = rw is-least (least-lost remote keys (drop-means remote (f .number) (f .records) d e .0))
 
     pub least-one : (m : ℕ) → inFlight f m ≡ true → isLost remote m ≡ true → d .number .0 ≤ m
     least-one m i lost =
         let h = stands f m i in
-        rw is-least (least-le remote m (f .number) (firstPlace m (f .number)) h (first-at m (f .number) h) lost)
+        rw is-least (least-le remote m keys (firstPlace m keys) h (first-at m keys h) lost)
 
-    pub gave-back : (room : ℕ) → view room f (d .number .0) ≡ some (record { packet = d .sent; payload = bytesAt room (f .bytes) (firstPlace (d .number .0) (f .number)) (d .count) })
+    pub gave-back : (room : ℕ) → view room f (d .number .0) ≡ some (record { packet = d .sent; payload = bytesAt room (f .bytes) (firstPlace (d .number .0) (numbersIn (f .number))) (d .count) })
     gave-back room =
         let same = drop-means remote (f .number) (f .records) d e .1 in
-        let at = firstPlace (d .number .0) (f .number) in
-        let there : firstPlace (leastLost remote (f .number)) (f .number) ≡ at = ap (λ (x : ℕ). firstPlace x (f .number)) (sym is-least) in
+        let at = firstPlace (d .number .0) keys in
+        let there : firstPlace (leastLost remote keys) keys ≡ at = ap (λ (x : ℕ). firstPlace x keys) (sym is-least) in
         let p : packetOf (getD (f .records) at 0) ≡ d .sent = ap (λ (x : ℕ). packetOf (getD (f .records) x 0)) (sym there) ∙ ap (λ (x : Dropped). x .sent) same in
-        let q : lengthOf (getD (f .records) at 0) ≡ d .count = ap (λ (x : ℕ). lengthOf (getD (f .records) x 0)) (sym there) ∙ ap (λ (x : Dropped). x .count) same in
-        seen room f (d .number .0) at refl within ∙ (λ i. some (record { packet = p i; payload = bytesAt room (f .bytes) at (q i) }))
+        let q : lengthOf (getD (f .number) at 0) ≡ d .count = ap (λ (x : ℕ). lengthOf (getD (f .number) x 0)) (sym there) ∙ ap (λ (x : Dropped). x .count) same in
+        seen room f (d .number .0) at refl (rw (sym (numbers-length (f .number))) within) ∙ (λ i. some (record { packet = p i; payload = bytesAt room (f .bytes) at (q i) }))
 
     pub dropped-seen : (room : ℕ) → Sound room f → (m : ℕ) → m < 65536
         → view room (without f d) m ≡ cond (eqb m (d .number .0)) none (view room f m)
     dropped-seen room s m v =
         let n = d .number .0 in
-        let k = firstPlace n (f .number) in
+        let k = firstPlace n keys in
         let long = length-set (f .number) k noNumber in
+        let left = numbers-out (f .number) k in
         case (eqb m n)
         (λ q.
         let z : m ≡ n = eqb-true m n q in
-        rw (q, z) (unseen room (without f d) n (omega (arith, long, first-out n (f .number) is-number (sound-once room (f .number) (f .records) (s .not-13)) within))))
+        rw (q, z) (unseen room (without f d) n (omega (arith, long, numbers-length (f .number), ap (firstPlace n) left ∙ first-out n keys is-number (sound-once room (f .number) (s .not-13)) within))))
         (λ q.
         rw q
         (alike room f (without f d) m long
-        (first-put-other m noNumber (f .number) k within (λ z. eqb-false m n q (sym z ∙ first-at n (f .number) within)) (λ z. omega arith))
-        (λ h. refl)))
+        (ap (firstPlace m) left ∙ first-put-other m noNumber keys k within (λ z. eqb-false m n q (sym z ∙ first-at n keys within)) (λ z. omega arith))
+        (λ h.
+        let apart : firstPlace m keys ≡ k → ⊥ = λ z. eqb-false m n q (sym (first-at m keys (rw (numbers-length (f .number)) h)) ∙ ap (λ (x : ℕ). getD keys x 0) z ∙ first-at n keys within) in
+        same-word room f (set (f .number) k noNumber) (firstPlace m keys) (getD-set-other (f .number) k (firstPlace m keys) noNumber 0 apart))))
 
 count-same : (l : List ℕ) → twice l ≡ false → countOf l ≡ distinctOf l
 unfolding countOf distinctOf
@@ -141,7 +152,7 @@ count-same (x ∷ l) e =
 
 pub facts : FlightFacts
 facts = record {
-  counted = λ room f s. count-same (f .number) (sound-once room (f .number) (f .records) (s .not-13));
+  counted = λ room f s. count-same (numbersIn (f .number)) (sound-once room (f .number) (s .not-13));
   stored-view = λ room f n sent payload s v small roomy. stored-seen room f n sent payload s v small roomy;
   acked-view = acked-seen;
   given-back = λ room f remote d e. gave-back f remote d e room;

@@ -1,3 +1,4 @@
+pub mod Words
 pub mod Loops
 pub mod Found
 pub mod Room

@@ -13,6 +13,7 @@ use lib.Dec.{ltb}
 use borrow.Author.Tests.{lt-ltb, le-ltb, lt-leb}
 use Rattle.laws.proofs.Cases.{lt-or-le}
 use Rattle.laws.proofs.Lists.{drop-back}
+use Rattle.key_parts.specs.Words.{noPacket}
 use Rattle.serial.specs.Order.{greater, back}
 use Rattle.sequence_buffer.specs.Buffer.{none}
 use Rattle.flight.specs.Entry.{lengthOf}
@@ -35,13 +36,13 @@ free-nil : firstFree [] ≡ 0
 unfolding firstFree
 free-nil = refl
 
-over-cons : (room x : ℕ) (xs : List ℕ) (w : ℕ) (ws : List ℕ) → overLong room (x ∷ xs) (w ∷ ws) ≡ ((ltb x 65536 && ltb room (lengthOf w)) || overLong room xs ws)
+over-cons : (room w : ℕ) (ws : List ℕ) → overLong room (w ∷ ws) ≡ ((ltb w noPacket && ltb room (lengthOf w)) || overLong room ws)
 unfolding overLong
-over-cons room x xs w ws = refl
+over-cons room w ws = refl
 
-over-nil : (room : ℕ) (ws : List ℕ) → overLong room [] ws ≡ false
+over-nil : (room : ℕ) → overLong room [] ≡ false
 unfolding overLong
-over-nil room ws = refl
+over-nil room = refl
 
 least-cons : (remote x : ℕ) (xs : List ℕ) → leastLost remote (x ∷ xs) ≡ cond (ltb x (leastLost remote xs) && isLost remote x) x (leastLost remote xs)
 unfolding leastLost
@@ -58,8 +59,8 @@ module _ (l : List ℕ) where
   pub free-end : firstFree (drop (length l) l) ≡ 0
   free-end = ap firstFree (drop-length l) ∙ free-nil
 
-  pub over-end : (room : ℕ) (ws : List ℕ) → overLong room (drop (length l) l) ws ≡ false
-  over-end room ws = ap (λ (xs : List ℕ). overLong room xs ws) (drop-length l) ∙ over-nil room ws
+  pub over-end : (room : ℕ) → overLong room (drop (length l) l) ≡ false
+  over-end room = ap (overLong room) (drop-length l) ∙ over-nil room
 
   pub least-end : (remote : ℕ) → leastLost remote (drop (length l) l) ≡ none
   least-end remote = ap (leastLost remote) (drop-length l) ∙ least-nil remote
@@ -77,10 +78,9 @@ module _ (l : List ℕ) (i : ℕ) (some : 0 < i) (within : i ≤ length l) where
   pub free-later : getD l (i - 1) 0 < 65536 → firstFree (drop (i - 1) l) ≡ suc (firstFree (drop i l))
   free-later h = rw (drop-back l i some within, free-cons, lt-ltb _ _ h)
 
-  pub over-turn : (room : ℕ) (ws : List ℕ) → i ≤ length ws
-      → overLong room (drop (i - 1) l) (drop (i - 1) ws)
-      ≡ ((ltb (getD l (i - 1) 0) 65536 && ltb room (lengthOf (getD ws (i - 1) 0))) || overLong room (drop i l) (drop i ws))
-  over-turn room ws h = rw (drop-back l i some within, drop-back ws i some h, over-cons)
+  pub over-turn : (room : ℕ)
+      → overLong room (drop (i - 1) l) ≡ ((ltb (getD l (i - 1) 0) noPacket && ltb room (lengthOf (getD l (i - 1) 0))) || overLong room (drop i l))
+  over-turn room = rw (drop-back l i some within, over-cons)
 
   pub least-turn : (remote : ℕ) → leastLost remote (drop (i - 1) l) ≡ cond (ltb (getD l (i - 1) 0) (leastLost remote (drop i l)) && isLost remote (getD l (i - 1) 0)) (getD l (i - 1) 0) (leastLost remote (drop i l))
   least-turn remote = rw (drop-back l i some within, least-cons)

@@ -2,6 +2,7 @@
 --     place-le       a place, or the number of places
 --     place-means    the place has the number already, or is free
 --     full-place     `full` is that there is no place
+--     at-first, at-free, at-own     where a number goes, by the words of a column
 use mathlib.Core.Path.{_≡_, refl}
 use mathlib.Core.Bool.{true, false, not, _&&_}
 use mathlib.Core.List.{List, [], _∷_}
@@ -14,8 +15,11 @@ use lib.Dec.{ltb, eqb}
 use borrow.Author.Tests.{lt-ltb, le-ltb, eq-eqb, ne-eqb, ltb-true, ltb-false, eqb-true, eqb-false}
 use Rattle.laws.proofs.Cases.{case}
 use Rattle.keys.specs.Keys.{firstPlace}
+use Rattle.key_parts.specs.Words.{noPacket}
+use Rattle.flight.specs.Entry.{numbersIn}
 use Rattle.flight.specs.Places.{firstFree, placeOf, othersOf, full}
 use Rattle.flight.proofs.Found.{first-le, first-at, first-here, first-later}
+use Rattle.flight.proofs.Words.{numbers-length, number-here, none-here}
 
 free-here : (x : ℕ) (l : List ℕ) → ltb x 65536 ≡ false → firstFree (x ∷ l) ≡ 0
 unfolding firstFree
@@ -143,3 +147,29 @@ module _ (n : ℕ) (l : List ℕ) (some : 1 ≤ length l) where
       case (full n l)
       (λ e. rw (e, eq-eqb (placeOf n l) (length l) (no-place (taken n l (eqb-true (othersOf n l) (length l) e)))))
       (λ e. rw (e, ne-eqb (placeOf n l) (length l) (λ h. eqb-false (othersOf n l) (length l) e (all-taken h))))
+
+module _ (n : ℕ) (words : List ℕ) (some : 1 ≤ length words) where
+  abbrev keys : List ℕ
+  keys = numbersIn words
+
+  pub at-first : firstPlace n (numbersIn words) < length words → firstPlace n (numbersIn words) ≡ placeOf n (numbersIn words)
+  unfolding placeOf
+  at-first h = rw (lt-ltb (firstPlace n keys) (length keys) (omega (arith, numbers-length words)))
+
+  pub at-free : length words ≤ firstPlace n (numbersIn words) → getD words (n % length words) 0 < noPacket → firstFree (numbersIn words) ≡ placeOf n (numbersIn words)
+  unfolding placeOf
+  at-free h v =
+      rw (
+        le-ltb (firstPlace n keys) (length keys) (omega (arith, numbers-length words)),
+        numbers-length words,
+        lt-ltb (getD keys (n % length words) 0) 65536 (number-here words (n % length words) (mod-lt n {m = length words} some) v),
+      )
+
+  pub at-own : length words ≤ firstPlace n (numbersIn words) → noPacket ≤ getD words (n % length words) 0 → n % length words ≡ placeOf n (numbersIn words)
+  unfolding placeOf
+  at-own h v =
+      rw (
+        le-ltb (firstPlace n keys) (length keys) (omega (arith, numbers-length words)),
+        numbers-length words,
+        le-ltb (getD keys (n % length words) 0) 65536 (none-here words (n % length words) (mod-lt n {m = length words} some) v),
+      )

@@ -18,58 +18,58 @@ use Rattle.laws.proofs.Slots.{slot-end}
 use Rattle.keys.specs.Keys.{firstPlace, twice}
 use Rattle.keys.proofs.Twice.{exact, all-apart}
 use Rattle.sequence_buffer.specs.Buffer.{none, emptied}
-use Rattle.flight.specs.Entry.{packed, lengthOf}
+use Rattle.key_parts.specs.Words.{noPacket}
+use Rattle.flight.specs.Entry.{wordOf, numbersIn, packed, lengthOf}
 use Rattle.flight.specs.Places.{overLong, sound, placeOf, full}
-use Rattle.flight.specs.Acked.{isAcked}
+use Rattle.flight.specs.Acked.{isAcked, isTold}
 use Rattle.flight.specs.View.{Flight, stored, acknowledged, without, Sound, Fits}
 use Rattle.flight.specs.declared.SentPacket.{SentPacket}
 use Rattle.flight.specs.declared.lost.Dropped.{Dropped}
 use Rattle.flight.proofs.Found.{fits-at, first-at}
 use Rattle.flight.proofs.Firsts.{first-min}
 use Rattle.flight.proofs.Room.{place-le, full-place}
-use Rattle.flight.proofs.Packing.{length-packed}
+use Rattle.flight.proofs.Words.{length-word, number-word, numbers-length, numbers-set, numbers-out, numbers-emptied}
 
 -- what `sound` says, and how it is shown
-module _ (room : ℕ) (number records : List ℕ) where
-  pub sound-fits : sound room number records ≡ true → overLong room number records ≡ false
+module _ (room : ℕ) (words : List ℕ) where
+  pub sound-fits : sound room words ≡ true → overLong room words ≡ false
   unfolding sound
-  sound-fits = go (overLong room number records)
+  sound-fits = go (overLong room words)
     where
-      go : (b : Bool) → (not b && not (twice number)) ≡ true → b ≡ false
+      go : (b : Bool) → (not b && not (twice (numbersIn words))) ≡ true → b ≡ false
       go true e = sym e
       go false e = refl
 
-  pub sound-once : sound room number records ≡ true → twice number ≡ false
+  pub sound-once : sound room words ≡ true → twice (numbersIn words) ≡ false
   unfolding sound
-  sound-once = go (overLong room number records)
+  sound-once = go (overLong room words)
     where
-      go : (b : Bool) → (not b && not (twice number)) ≡ true → twice number ≡ false
+      go : (b : Bool) → (not b && not (twice (numbersIn words))) ≡ true → twice (numbersIn words) ≡ false
       go true e = both {b = false} (sym (sym e)) refl
-      go false e = off (twice number) e
+      go false e = off (twice (numbersIn words)) e
 
-  pub sound-of : overLong room number records ≡ false → twice number ≡ false → sound room number records ≡ true
+  pub sound-of : overLong room words ≡ false → twice (numbersIn words) ≡ false → sound room words ≡ true
   unfolding sound
   sound-of e q = rw (e, q)
 
-pub fits-all : (room : ℕ) (number records : List ℕ)
-    → ((at : ℕ) → at < length number → at < length records → getD number at 0 < 65536 → lengthOf (getD records at 0) ≤ room)
-    → overLong room number records ≡ false
+pub fits-all : (room : ℕ) (words : List ℕ)
+    → ((at : ℕ) → at < length words → getD words at 0 < noPacket → lengthOf (getD words at 0) ≤ room)
+    → overLong room words ≡ false
 unfolding overLong
-fits-all room [] ws f = refl
-fits-all room (x ∷ xs) [] f = refl
-fits-all room (x ∷ xs) (w ∷ ws) f =
+fits-all room [] f = refl
+fits-all room (w ∷ ws) f =
     ⊎-elim
-    (λ v. rw (lt-ltb x 65536 v, le-ltb room (lengthOf w) (f 0 (suc-le-suc zero-le) (suc-le-suc zero-le) v)) (fits-all room xs ws (λ at h k. f (suc at) (suc-le-suc h) (suc-le-suc k))))
-    (λ v. rw (le-ltb x 65536 v) (fits-all room xs ws (λ at h k. f (suc at) (suc-le-suc h) (suc-le-suc k))))
-    (lt-or-le x 65536)
+    (λ v. rw (lt-ltb w noPacket v, le-ltb room (lengthOf w) (f 0 (suc-le-suc zero-le) v)) (fits-all room ws (λ at h. f (suc at) (suc-le-suc h))))
+    (λ v. rw (le-ltb w noPacket v) (fits-all room ws (λ at h. f (suc at) (suc-le-suc h))))
+    (lt-or-le w noPacket)
 
 -- no two places of a column in which no number stands twice hold the same one
 pub apart : (l : List ℕ) → twice l ≡ false → (i j : ℕ) → i < j → j < length l → getD l i 0 < 65536 → getD l i 0 ≡ getD l j 0 → ⊥
 apart l t i j before within key same =
     both (exact .if-same l (record { first = i; second = j; before = before; within = within; key = key; same = same })) t
 
--- an entry that is still a number was not emptied
-still : (t : ℕ → Bool) (x : ℕ) → emptied t x < 65536 → emptied t x ≡ x
+-- an entry that is still something was not emptied
+still : (t : ℕ → Bool) (x : ℕ) → emptied t x < none → emptied t x ≡ x
 unfolding emptied
 still t x = case (t x) (λ e. rw e (λ h. absurd (omega arith))) (λ e. rw e (λ h. refl))
 
@@ -127,81 +127,91 @@ lone n l some v t =
     (λ h j within off-place at-j. omega (arith, first-min n l j within at-j, ltb-false (firstPlace n l) (length l) e)))
 
 module _ (room : ℕ) (f : Flight) (s : Sound room f) where
-  fits : overLong room (f .number) (f .records) ≡ false
-  fits = sound-fits room (f .number) (f .records) (s .not-13)
+  fits : overLong room (f .number) ≡ false
+  fits = sound-fits room (f .number) (s .not-13)
 
-  once : twice (f .number) ≡ false
-  once = sound-once room (f .number) (f .records) (s .not-13)
+  once : twice (numbersIn (f .number)) ≡ false
+  once = sound-once room (f .number) (s .not-13)
 
   pub stays-acked : (acked field : ℕ) → Sound room (acknowledged f acked field)
   stays-acked acked field =
-      let t = isAcked acked field in
+      let t = isTold acked field in
       let long = length-map (f .number) (emptied t) in
       record {
         some-place = rw long (s .some-place);
         recorded = rw long (s .recorded);
         slots = rw long (s .slots);
-        not-13 = sound-of room (map (emptied t) (f .number)) (f .records)
-            (fits-all room (map (emptied t) (f .number)) (f .records)
-            (λ at h k key.
+        not-13 = sound-of room (map (emptied t) (f .number))
+            (fits-all room (map (emptied t) (f .number))
+            (λ at h key.
             let a = map-at (emptied t) (f .number) at (omega arith) in
             let p = still t (getD (f .number) at 0) (omega arith) in
-            fits-at room (f .number) (f .records) at fits (omega arith) k (omega arith)))
-            (twice-emptied t (f .number) once);
+            rw (a, p) (fits-at room (f .number) at fits (omega arith) (omega arith))))
+            (rw (numbers-emptied (isAcked acked field) (f .number)) (twice-emptied (isAcked acked field) (numbersIn (f .number)) once));
       }
 
   pub stays-dropped : (d : Dropped) → Sound room (without f d)
   stays-dropped d =
-      let k = firstPlace (d .number .0) (f .number) in
+      let k = firstPlace (d .number .0) (numbersIn (f .number)) in
       let long = length-set (f .number) k none in
+      let keys = numbers-length (f .number) in
       record {
         some-place = rw long (s .some-place);
         recorded = rw long (s .recorded);
         slots = rw long (s .slots);
-        not-13 = sound-of room (set (f .number) k none) (f .records)
-            (fits-all room (set (f .number) k none) (f .records)
-            (λ at h r key.
+        not-13 = sound-of room (set (f .number) k none)
+            (fits-all room (set (f .number) k none)
+            (λ at h key.
             case (eqb at k)
             (λ p.
             let z : at ≡ k = eqb-true at k p in
             absurd (omega (arith, getD-set-same (f .number) k none 0 (omega arith), ap (λ (x : ℕ). getD (set (f .number) k none) x 0) z)))
-            (λ p. fits-at room (f .number) (f .records) at fits (omega arith) r (omega (arith, getD-set-other (f .number) k at none 0 (eqb-false at k p))))))
+            (λ p.
+            let same = getD-set-other (f .number) k at none 0 (eqb-false at k p) in
+            rw same (fits-at room (f .number) at fits (omega arith) (omega (arith, same, key))))))
+            (rw (numbers-out (f .number) k)
             (⊎-elim
-            (λ h. twice-set (f .number) k none h once (λ key. absurd (omega arith)))
-            (λ h. rw (set-out (f .number) k none h) once)
-            (lt-or-le k (length (f .number))));
+            (λ h. twice-set (numbersIn (f .number)) k none h once (λ key. absurd (omega arith)))
+            (λ h. rw (set-out (numbersIn (f .number)) k none h) once)
+            (lt-or-le k (length (numbersIn (f .number))))));
       }
 
-  module _ (n : ℕ) (sent : SentPacket) (payload : List ℕ) (number : n < 65536) (small : Fits room sent payload) (roomy : full n (f .number) ≡ false) where
-    pub place-within : placeOf n (f .number) < length (f .number)
-    place-within =
-        let le = place-le n (f .number) (s .some-place) in
-        let apart = eqb-false (placeOf n (f .number)) (length (f .number)) (sym (full-place n (f .number) (s .some-place)) ∙ roomy) in
-        ⊎-elim (λ h. h) (λ h. absurd (apart (omega arith))) (lt-or-le (placeOf n (f .number)) (length (f .number)))
+  module _ (n : ℕ) (sent : SentPacket) (payload : List ℕ) (number : n < 65536) (small : Fits room sent payload) (roomy : full n (numbersIn (f .number)) ≡ false) where
+    some-number : 1 ≤ length (numbersIn (f .number))
+    some-number = rw (numbers-length (f .number)) (s .some-place)
 
-    pub slot-within : placeOf n (f .number) * room + room ≤ length (f .bytes)
-    slot-within = omega (arith, slot-end (placeOf n (f .number)) (length (f .number)) room place-within, s .slots)
+    pub place-within : placeOf n (numbersIn (f .number)) < length (f .number)
+    place-within =
+        let le = place-le n (numbersIn (f .number)) some-number in
+        let apart = eqb-false (placeOf n (numbersIn (f .number))) (length (numbersIn (f .number))) (sym (full-place n (numbersIn (f .number)) some-number) ∙ roomy) in
+        let keys = numbers-length (f .number) in
+        ⊎-elim (λ h. h) (λ h. absurd (apart (omega arith))) (lt-or-le (placeOf n (numbersIn (f .number))) (length (f .number)))
+
+    pub slot-within : placeOf n (numbersIn (f .number)) * room + room ≤ length (f .bytes)
+    slot-within = omega (arith, slot-end (placeOf n (numbersIn (f .number))) (length (f .number)) room place-within, s .slots)
 
     pub stays-stored : Sound room (stored room f n sent payload)
     stays-stored =
-        let k = placeOf n (f .number) in
-        let w = packed sent (length payload) in
-        let long = length-set (f .number) k n in
-        let wide = length-set (f .records) k w in
+        let k = placeOf n (numbersIn (f .number)) in
+        let w = wordOf n (length payload) in
+        let long = length-set (f .number) k w in
+        let wide = length-set (f .records) k (packed sent) in
+        let keys = numbers-length (f .number) in
         let h = place-within in
+        let h′ : placeOf n (numbersIn (f .number)) < length (numbersIn (f .number)) = omega arith in
         record {
           some-place = rw long (s .some-place);
           recorded = rw (long, wide) (s .recorded);
           slots = rw (long, length-paste (f .bytes) (k * room) payload (length payload) (omega (arith, slot-within, small .slot)) (omega arith)) (s .slots);
-          not-13 = sound-of room (set (f .number) k n) (set (f .records) k w)
-              (fits-all room (set (f .number) k n) (set (f .records) k w)
-              (λ at q r key.
+          not-13 = sound-of room (set (f .number) k w)
+              (fits-all room (set (f .number) k w)
+              (λ at q key.
               case (eqb at k)
               (λ p.
-              rw (eqb-true at k p, getD-set-same (f .records) k w 0 (omega (arith, s .recorded)), length-packed sent (length payload) (small .ordering-byte) (small .stream-byte) (small .item-word) (small .word))
-              (small .slot))
+              rw (eqb-true at k p, getD-set-same (f .number) k w 0 h, length-word n (length payload) (small .word)) (small .slot))
               (λ p.
-              rw (getD-set-other (f .records) k at w 0 (eqb-false at k p))
-              (fits-at room (f .number) (f .records) at fits (omega arith) (omega arith) (omega (arith, getD-set-other (f .number) k at n 0 (eqb-false at k p)))))))
-              (twice-set (f .number) k n h once (λ key. lone n (f .number) (s .some-place) number once h));
+              let same = getD-set-other (f .number) k at w 0 (eqb-false at k p) in
+              rw same (fits-at room (f .number) at fits (omega arith) (omega (arith, same, key))))))
+              (rw (numbers-set (f .number) k w, number-word n (length payload) number (small .word))
+              (twice-set (numbersIn (f .number)) k n h′ once (λ key. lone n (numbersIn (f .number)) some-number number once h′)));
         }

@@ -9,7 +9,7 @@ use lib.Dec.{ltb}
 use Rattle.keys.specs.Keys.{firstPlace}
 use Rattle.serial.specs.Order.{greater, back}
 use Rattle.sequence_buffer.specs.Buffer.{none}
-use Rattle.flight.specs.Entry.{packetOf, lengthOf, bytesAt}
+use Rattle.flight.specs.Entry.{numbersIn, packetOf, lengthOf, bytesAt}
 use Rattle.flight.specs.Places.{overLong}
 use Rattle.flight.specs.declared.lost.Drop.{Drop}
 use Rattle.flight.specs.declared.lost.Drop.the-variants.{Nothing, Packet}
@@ -30,22 +30,23 @@ leastLost remote (x ∷ xs) = cond (ltb x (leastLost remote xs) && isLost remote
 
 -- what is given back
 unfoldable pub dropOf : ℕ → List ℕ → List ℕ → Drop
-dropOf remote number records =
-    let word = getD records (firstPlace (leastLost remote number) number) 0 in
-    cond (ltb (leastLost remote number) 65536)
-    (Packet (record { number = record { 0 = leastLost remote number }; sent = packetOf word; count = lengthOf word }))
+dropOf remote words records =
+    let least = leastLost remote (numbersIn words) in
+    let at = firstPlace least (numbersIn words) in
+    cond (ltb least 65536)
+    (Packet (record { number = record { 0 = least }; sent = packetOf (getD records at 0); count = lengthOf (getD words at 0) }))
     Nothing
 
 -- its entry goes
 abbrev pub numberLeft : Drop → List ℕ → List ℕ
-numberLeft Nothing number = number
-numberLeft (Packet d) number = set number (firstPlace (d .number .0) number) none
+numberLeft Nothing words = words
+numberLeft (Packet d) words = set words (firstPlace (d .number .0) (numbersIn words)) none
 
 -- its payload is written at the output's start; "None" leaves everything
 abbrev pub outputLeft : Drop → ℕ → List ℕ → List ℕ → List ℕ → List ℕ
-outputLeft Nothing room number bytes output = output
-outputLeft (Packet d) room number bytes output =
-    bytesAt room bytes (firstPlace (d .number .0) number) (d .count) ++ drop (d .count) output
+outputLeft Nothing room words bytes output = output
+outputLeft (Packet d) room words bytes output =
+    bytesAt room bytes (firstPlace (d .number .0) (numbersIn words)) (d .count) ++ drop (d .count) output
 
 -- what is required of a table: a record and a slot for each place, and no length over its slot
 pub record Table (room : ℕ) (number records bytes : List ℕ) : Type 0 where
@@ -53,4 +54,4 @@ pub record Table (room : ℕ) (number records bytes : List ℕ) : Type 0 where
   pub few : length number ≤ 256
   pub recorded : length number ≤ length records
   pub slots : length number * room ≤ length bytes
-  pub fits : overLong room number records ≡ false
+  pub fits : overLong room number ≡ false

@@ -1,11 +1,13 @@
--- The places of the packets in flight: a value below 65,536 is the number of a packet, at any other the place is free.
+-- The places of the packets in flight, by the numbers of their words: one below 65,536 is that of a packet, at any other the place is
+-- free.
 use Prim.Native.Nat.{ℕ, suc, _%_}
 use mathlib.Core.Bool.{Bool, false, cond, not, _&&_, _||_}
 use mathlib.Core.List.{List, [], _∷_}
 use lib.ListN.{length, getD}
 use lib.Dec.{ltb, eqb}
 use Rattle.keys.specs.Keys.{firstPlace, twice}
-use Rattle.flight.specs.Entry.{lengthOf}
+use Rattle.key_parts.specs.Words.{noPacket}
+use Rattle.flight.specs.Entry.{lengthOf, numbersIn}
 
 -- how many packets are in flight
 unfoldable pub countOf : List ℕ → ℕ
@@ -13,14 +15,13 @@ countOf [] = 0
 countOf (x ∷ xs) = cond (ltb x 65536) (suc (countOf xs)) (countOf xs)
 
 -- 13: "a recorded length .. is over what its slot .. holds"
-unfoldable pub overLong : ℕ → List ℕ → List ℕ → Bool
-overLong room [] words = false
-overLong room (x ∷ xs) [] = false
-overLong room (x ∷ xs) (w ∷ ws) = (ltb x 65536 && ltb room (lengthOf w)) || overLong room xs ws
+unfoldable pub overLong : ℕ → List ℕ → Bool
+overLong room [] = false
+overLong room (w ∷ ws) = (ltb w noPacket && ltb room (lengthOf w)) || overLong room ws
 
 -- not 13: nor "the packet number in flight" twice
-unfoldable pub sound : ℕ → List ℕ → List ℕ → Bool
-sound room number records = not (overLong room number records) && not (twice number)
+unfoldable pub sound : ℕ → List ℕ → Bool
+sound room words = not (overLong room words) && not (twice (numbersIn words))
 
 unfoldable pub firstFree : List ℕ → ℕ
 firstFree [] = 0

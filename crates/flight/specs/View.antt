@@ -10,9 +10,9 @@ use lib.Seq.{paste}
 use lib.Dec.{ltb, eqb}
 use Rattle.keys.specs.Keys.{firstPlace, occurs}
 use Rattle.sequence_buffer.specs.Buffer.{emptied}
-use Rattle.flight.specs.Entry.{packed, packetOf, lengthOf, bytesAt}
+use Rattle.flight.specs.Entry.{wordOf, numbersIn, packed, packetOf, lengthOf, bytesAt}
 use Rattle.flight.specs.Places.{countOf, sound, placeOf, full}
-use Rattle.flight.specs.Acked.{isAcked}
+use Rattle.flight.specs.Acked.{isAcked, isTold}
 use Rattle.flight.specs.Lost.{isLost, dropOf, numberLeft}
 use Rattle.flight.specs.declared.SentPacket.{SentPacket}
 use Rattle.flight.specs.declared.lost.Dropped.{Dropped}
@@ -28,28 +28,28 @@ pub record Sent : Type 0 where
   pub payload : List ℕ
 
 unfoldable pub inFlight : Flight → ℕ → Bool
-inFlight f n = ltb (firstPlace n (f .number)) (length (f .number))
+inFlight f n = ltb (firstPlace n (numbersIn (f .number))) (length (f .number))
 
 -- what stands at a place
 abbrev pub entryAt : ℕ → Flight → ℕ → Sent
 entryAt room f at =
-    record { packet = packetOf (getD (f .records) at 0); payload = bytesAt room (f .bytes) at (lengthOf (getD (f .records) at 0)) }
+    record { packet = packetOf (getD (f .records) at 0); payload = bytesAt room (f .bytes) at (lengthOf (getD (f .number) at 0)) }
 
 unfoldable pub view : ℕ → Flight → ℕ → Option Sent
-view room f n = cond (inFlight f n) (some (entryAt room f (firstPlace n (f .number)))) none
+view room f n = cond (inFlight f n) (some (entryAt room f (firstPlace n (numbersIn (f .number))))) none
 
 -- what each call makes of the columns, as their contracts say
 abbrev pub stored : ℕ → Flight → ℕ → SentPacket → List ℕ → Flight
 stored room f n sent payload =
     record {
-      number = set (f .number) (placeOf n (f .number)) n;
-      records = set (f .records) (placeOf n (f .number)) (packed sent (length payload));
-      bytes = paste (f .bytes) (placeOf n (f .number) * room) payload (length payload);
+      number = set (f .number) (placeOf n (numbersIn (f .number))) (wordOf n (length payload));
+      records = set (f .records) (placeOf n (numbersIn (f .number))) (packed sent);
+      bytes = paste (f .bytes) (placeOf n (numbersIn (f .number)) * room) payload (length payload);
     }
 
 abbrev pub acknowledged : Flight → ℕ → ℕ → Flight
 acknowledged f acked field =
-    record { number = map (emptied (isAcked acked field)) (f .number); records = f .records; bytes = f .bytes }
+    record { number = map (emptied (isTold acked field)) (f .number); records = f .records; bytes = f .bytes }
 
 abbrev pub without : Flight → Dropped → Flight
 without f d = record { number = numberLeft (Packet d) (f .number); records = f .records; bytes = f .bytes }
@@ -59,7 +59,7 @@ pub record Sound (room : ℕ) (f : Flight) : Type 0 where
   pub some-place : 1 ≤ length (f .number)
   pub recorded : length (f .number) ≤ length (f .records)
   pub slots : length (f .number) * room ≤ length (f .bytes)
-  pub not-13 : sound room (f .number) (f .records) ≡ true
+  pub not-13 : sound room (f .number) ≡ true
 
 -- a record of bytes and a sixteen-bit identifier, with a payload that fits its slot
 pub record Fits (room : ℕ) (sent : SentPacket) (payload : List ℕ) : Type 0 where
@@ -67,7 +67,7 @@ pub record Fits (room : ℕ) (sent : SentPacket) (payload : List ℕ) : Type 0 w
   pub stream-byte : sent .stream < 256
   pub item-word : sent .item .0 < 65536
   pub slot : length payload ≤ room
-  pub word : length payload < 65536
+  pub word : length payload < 32768
 
 -- how many numbers stand in a column, each counted once
 unfoldable pub distinctOf : List ℕ → ℕ
@@ -76,13 +76,13 @@ distinctOf (x ∷ xs) = cond (ltb x 65536 && not (occurs x xs)) (suc (distinctOf
 
 pub record FlightFacts : Type 0 where
   -- the count is "the number of distinct entries"
-  pub counted : (room : ℕ) (f : Flight) → Sound room f → countOf (f .number) ≡ distinctOf (f .number)
+  pub counted : (room : ℕ) (f : Flight) → Sound room f → countOf (numbersIn (f .number)) ≡ distinctOf (numbersIn (f .number))
   -- "stores under the local number, replacing an entry of that number"; every other number is as it was
   pub stored-view : (room : ℕ) (f : Flight) (n : ℕ) (sent : SentPacket) (payload : List ℕ)
       → Sound room f
       → n < 65536
       → Fits room sent payload
-      → full n (f .number) ≡ false
+      → full n (numbersIn (f .number)) ≡ false
       → (m : ℕ)
       → m < 65536
       → view room (stored room f n sent payload) m ≡ cond (eqb m n) (some (record { packet = sent; payload = payload })) (view room f m)
@@ -93,7 +93,7 @@ pub record FlightFacts : Type 0 where
   -- a drop gives back what was in flight, and only that goes
   pub given-back : (room : ℕ) (f : Flight) (remote : ℕ) (d : Dropped)
       → dropOf remote (f .number) (f .records) ≡ Packet d
-      → view room f (d .number .0) ≡ some (record { packet = d .sent; payload = bytesAt room (f .bytes) (firstPlace (d .number .0) (f .number)) (d .count) })
+      → view room f (d .number .0) ≡ some (record { packet = d .sent; payload = bytesAt room (f .bytes) (firstPlace (d .number .0) (numbersIn (f .number))) (d .count) })
   pub dropped-view : (room : ℕ) (f : Flight) (remote : ℕ) (d : Dropped)
       → Sound room f
       → dropOf remote (f .number) (f .records) ≡ Packet d
@@ -119,7 +119,7 @@ pub record FlightFacts : Type 0 where
       → Sound room f
       → n < 65536
       → Fits room sent payload
-      → full n (f .number) ≡ false
+      → full n (numbersIn (f .number)) ≡ false
       → Sound room (stored room f n sent payload)
   pub acked-sound : (room : ℕ) (f : Flight) (acked field : ℕ) → Sound room f → Sound room (acknowledged f acked field)
   pub dropped-sound : (room : ℕ) (f : Flight) (d : Dropped) → Sound room f → Sound room (without f d)

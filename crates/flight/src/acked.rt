@@ -2,12 +2,13 @@
 ghost use mathlib.Core.Path.{_≡_};
 ghost use mathlib.Core.List.{map};
 ghost use Rattle.sequence_buffer.specs.Buffer.{emptied};
-ghost use Rattle.flight.specs.Acked.{isAcked};
+ghost use Rattle.flight.specs.Acked.{isTold};
+use key_parts::parts::NO_PACKET;
 use serial::PacketNumber;
 
 // The acknowledged number goes, and each number before it whose bit is set.
 pub fn remove(number: &mut [u32], acked: PacketNumber, field: u32)
-    ensures { λ _. ⌜ now (number .exit) ≡ map (emptied (isAcked (acked .0) field)) (now (number .entry)) ⌝ }
+    ensures { λ _. ⌜ now (number .exit) ≡ map (emptied (isTold (acked .0) field)) (now (number .entry)) ⌝ }
 {
     let mut i: usize = 0;
     while i < number.len() {
@@ -16,12 +17,12 @@ pub fn remove(number: &mut [u32], acked: PacketNumber, field: u32)
     }
 }
 
-// An entry, or none where it goes.
-fn without_acked(entry: u32, acked: PacketNumber, field: u32) -> u32
-    ensures { λ r. ⌜ r ≡ emptied (isAcked (acked .0) field) entry ⌝ }
+// A word, or none where its packet goes.
+fn without_acked(word: u32, acked: PacketNumber, field: u32) -> u32
+    ensures { λ r. ⌜ r ≡ emptied (isTold (acked .0) field) word ⌝ }
 {
-    if entry < 65536 {
-        let before = serial::distance(acked.0, entry as u16);
+    if word < NO_PACKET {
+        let before = serial::distance(acked.0, (word / 32768) as u16);
         if before == 0 {
             return sequence_buffer::NONE;
         }
@@ -31,5 +32,5 @@ fn without_acked(entry: u32, acked: PacketNumber, field: u32) -> u32
             }
         }
     }
-    entry
+    word
 }

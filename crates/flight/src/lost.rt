@@ -3,8 +3,11 @@ ghost use mathlib.Core.Path.{_≡_};
 ghost use mathlib.Core.Bool.{true, false};
 ghost use Prim.Native.Nat.{ℕ, _+_, _*_, _≤_, _<_};
 ghost use lib.ListN.{length, getD};
+ghost use Rattle.key_parts.specs.Words.{noPacket};
+ghost use Rattle.flight.specs.Entry.{numberIn, numbersIn};
 ghost use Rattle.flight.specs.Lost.{isLost, NoneLostBefore, leastLost, Table, dropOf, numberLeft, outputLeft};
 use crate::SentPacket;
+use key_parts::parts::NO_PACKET;
 use serial::PacketNumber;
 
 // A packet that is given back. Its payload stands at the start of the output.
@@ -22,7 +25,7 @@ pub enum Drop {
 // Takes the least lost packet out of flight. Requires a sound table, and an output that holds any slot.
 pub fn drop_one(
     number: &mut [u32],
-    records: &[u64],
+    records: &[u32],
     bytes: &[u8],
     room: usize,
     remote: PacketNumber,
@@ -37,22 +40,22 @@ pub fn drop_one(
     if least >= 65536 {
         return Drop::Nothing;
     }
-    let at = keys::find(number, least as u16);
-    let word = records[at];
-    let count = crate::entry::payload_length(word);
+    let packet = PacketNumber(least as u16);
+    let at = crate::places::find(number, packet);
+    let count = crate::entry::payload_length(number[at]);
     let start = at * room;
     bytes::copy(&bytes[start..start + count], output);
     number[at] = sequence_buffer::NONE;
     Drop::Packet(Dropped {
-        number: PacketNumber(least as u16),
-        sent: crate::entry::sent_packet(word),
+        number: packet,
+        sent: crate::entry::sent_packet(records[at]),
         count,
     })
 }
 
 // The least number that is lost, or none.
 fn least_lost(number: &[u32], remote: PacketNumber) -> u32
-    ensures { λ r. ⌜ r ≡ leastLost (remote .0) (now (number .entry)) ⌝ }
+    ensures { λ r. ⌜ r ≡ leastLost (remote .0) (numbersIn (now (number .entry))) ⌝ }
 {
     let mut least = sequence_buffer::NONE;
     let mut i = number.len();
@@ -61,9 +64,10 @@ fn least_lost(number: &[u32], remote: PacketNumber) -> u32
             i -= key_parts::parts::PART;
         } else {
             i -= 1;
-            if number[i] < least {
-                if is_lost(number[i], remote) {
-                    least = number[i];
+            let entry = crate::entry::number(number[i]);
+            if entry < least {
+                if is_lost(entry, remote) {
+                    least = entry;
                 }
             }
         }
@@ -74,7 +78,7 @@ fn least_lost(number: &[u32], remote: PacketNumber) -> u32
 // The part that ends before a place is one of the table's, and it is easily seen that none of its numbers is lost.
 fn is_none_lost_before(number: &[u32], end: usize, remote: PacketNumber) -> bool
     requires { ⌜ (0 < end) × (end ≤ length (now number)) ⌝ }
-    ensures { λ r. ⌜ (r ≡ true → NoneLostBefore (remote .0) end (now (number .entry))) ⌝ }
+    ensures { λ r. ⌜ (r ≡ true → NoneLostBefore (remote .0) end (numbersIn (now (number .entry)))) ⌝ }
 {
     if end % key_parts::parts::PART != 0 {
         return false;
@@ -89,7 +93,7 @@ fn is_none_lost_before(number: &[u32], end: usize, remote: PacketNumber) -> bool
 // None of the part's numbers is lost. Requires the part.
 fn none_lost_in(number: &[u32], at: usize, remote: u16) -> bool
     requires { ⌜ at + 32 ≤ length (now number) ⌝ }
-    ensures { λ r. ⌜ (r ≡ true → (k : ℕ) → k < 32 → isLost remote (getD (now (number .entry)) (at + k) 0) ≡ false) ⌝ }
+    ensures { λ r. ⌜ (r ≡ true → (k : ℕ) → k < 32 → isLost remote (numberIn (getD (now (number .entry)) (at + k) 0)) ≡ false) ⌝ }
 {
     let mut all: u32 = 4294967295;
     let mut k: usize = 0;
@@ -97,21 +101,21 @@ fn none_lost_in(number: &[u32], at: usize, remote: u16) -> bool
         all = all & unless_near(number[at + k], remote);
         k += 1;
     }
-    65536 <= all
+    NO_PACKET <= all
 }
 
-// An entry, or no number where it is at most 32 before the remote acknowledged number, or after it.
-fn unless_near(entry: u32, remote: u16) -> u32
-    ensures { λ r. ⌜ (65536 ≤ r → isLost remote entry ≡ false) ⌝ }
+// A word, or none where its number is at most 32 before the remote acknowledged number, or after it.
+fn unless_near(word: u32, remote: u16) -> u32
+    ensures { λ r. ⌜ (noPacket ≤ r → isLost remote (numberIn word) ≡ false) ⌝ }
 {
-    let before = std::num::wrapping_sub_u32(remote as u32, entry) % 65536;
+    let before = std::num::wrapping_sub_u32(remote as u32, word / 32768) % 65536;
     if before < 33 {
         return 4294967295;
     }
     if 32768 < before {
         return 4294967295;
     }
-    entry
+    word
 }
 
 // An entry is less than the remote acknowledged number and more than 32 before it.

@@ -6,7 +6,7 @@ use mathlib.Core.Path.{_≡_, refl, sym, ap, _∙_}
 use mathlib.Core.Bool.{Bool, true, false, _&&_, _||_}
 use mathlib.Core.List.{List, [], _∷_, map}
 use mathlib.Core.Logic.{⊎-elim}
-use Prim.Native.Nat.{ℕ, _+_, _-_, _%_, _≤_, _<_}
+use Prim.Native.Nat.{ℕ, _+_, _-_, _/_, _%_, _≤_, _<_}
 use native.Mathlib.Nat.{mod-lt}
 use native.Mathlib.Omega.{arith}
 use lib.ListN.{length, getD, set, length-set, length-map}
@@ -19,7 +19,9 @@ use Rattle.laws.proofs.Lists.{map-at}
 use Rattle.serial.specs.Order.{back}
 use Rattle.keys.specs.Home.{Home}
 use Rattle.sequence_buffer.specs.Buffer.{none, emptied}
-use Rattle.flight.specs.Acked.{isAcked}
+use Rattle.flight.specs.Entry.{numberIn, numbersIn}
+use Rattle.flight.specs.Acked.{isAcked, isTold}
+use Rattle.flight.proofs.Words.{has-number, no-number, is-number, numbers-length, numbers-at, numbers-emptied}
 
 emptied-true : (t : ℕ → Bool) (e : ℕ) → t e ≡ true → emptied t e ≡ none
 unfolding emptied
@@ -29,43 +31,58 @@ emptied-false : (t : ℕ → Bool) (e : ℕ) → t e ≡ false → emptied t e �
 unfolding emptied
 emptied-false t e q = rw q
 
-module _ (l : List ℕ) (h : Home l) (m : ℕ) (small : m < 65536) (some : 0 < length l) where
+-- taking the number m, by the words of a column
+abbrev pub taking : ℕ → ℕ → Bool
+taking m word = eqb m (numberIn word)
+
+module _ (l : List ℕ) (h : Home (numbersIn l)) (m : ℕ) (small : m < 65536) (some : 0 < length l) where
   abbrev own : ℕ
   own = m % length l
 
   -- elsewhere the number does not stand
-  elsewhere : (j : ℕ) → j < length l → (j ≡ own → ⊥) → eqb m (getD l j 0) ≡ false
+  elsewhere : (j : ℕ) → j < length l → (j ≡ own → ⊥) → eqb m (numberIn (getD l j 0)) ≡ false
   elsewhere j q apart =
-      ne-eqb m (getD l j 0)
-      (λ e. apart (sym (h .own j q (omega arith)) ∙ ap (λ (x : ℕ). x % length l) (sym e)))
+      let long = numbers-length l in
+      let at = numbers-at l j q in
+      ne-eqb m (numberIn (getD l j 0))
+      (λ e.
+      apart
+      (sym (h .own j (omega arith) (omega arith))
+      ∙ ap (λ (x : ℕ). x % length (numbersIn l)) (at ∙ sym e)
+      ∙ ap (λ (x : ℕ). m % x) long))
 
-  pub own-here : getD l own 0 ≡ m → set l own none ≡ map (emptied (eqb m)) l
+  pub own-here : getD l own 0 / 32768 ≡ m → set l own none ≡ map (emptied (taking m)) l
   own-here e =
-      ext-getD 0 (set l own none) (map (emptied (eqb m)) l) (length-set l own none ∙ sym (length-map l (emptied (eqb m))))
+      ext-getD 0 (set l own none) (map (emptied (taking m)) l) (length-set l own none ∙ sym (length-map l (emptied (taking m))))
       (λ j q.
       let w : j < length l = omega (arith, length-set l own none) in
       case (eqb j own)
       (λ z.
       let y : j ≡ own = eqb-true j own z in
+      let there : numberIn (getD l j 0) ≡ m = ap (λ (x : ℕ). numberIn (getD l x 0)) y ∙ has-number (getD l own 0) (omega arith) ∙ e in
       ap (λ (x : ℕ). getD (set l own none) x 0) y ∙ getD-set-same l own none 0 (mod-lt m {m = length l} some)
-      ∙ sym (map-at (emptied (eqb m)) l j w ∙ emptied-true (eqb m) (getD l j 0) (eq-eqb m (getD l j 0) (sym (ap (λ (x : ℕ). getD l x 0) y ∙ e)))))
+      ∙ sym (map-at (emptied (taking m)) l j w ∙ emptied-true (taking m) (getD l j 0) (eq-eqb m (numberIn (getD l j 0)) (sym there))))
       (λ z.
       getD-set-other l own j none 0 (eqb-false j own z)
-      ∙ sym (map-at (emptied (eqb m)) l j w ∙ emptied-false (eqb m) (getD l j 0) (elsewhere j w (eqb-false j own z)))))
+      ∙ sym (map-at (emptied (taking m)) l j w ∙ emptied-false (taking m) (getD l j 0) (elsewhere j w (eqb-false j own z)))))
 
-  pub own-away : (getD l own 0 ≡ m → ⊥) → l ≡ map (emptied (eqb m)) l
+  pub own-away : (getD l own 0 / 32768 ≡ m → ⊥) → l ≡ map (emptied (taking m)) l
   own-away apart =
-      ext-getD 0 l (map (emptied (eqb m)) l) (sym (length-map l (emptied (eqb m))))
+      ext-getD 0 l (map (emptied (taking m)) l) (sym (length-map l (emptied (taking m))))
       (λ j w.
       sym
-      (map-at (emptied (eqb m)) l j w
-      ∙ emptied-false (eqb m) (getD l j 0)
+      (map-at (emptied (taking m)) l j w
+      ∙ emptied-false (taking m) (getD l j 0)
       (case (eqb j own)
-      (λ z. ne-eqb m (getD l j 0) (λ e. apart (ap (λ (x : ℕ). getD l x 0) (sym (eqb-true j own z)) ∙ sym e)))
+      (λ z.
+      ne-eqb m (numberIn (getD l j 0))
+      (λ e.
+      let there : numberIn (getD l own 0) ≡ m = ap (λ (x : ℕ). numberIn (getD l x 0)) (sym (eqb-true j own z)) ∙ sym e in
+      apart (sym (has-number (getD l own 0) (is-number (getD l own 0) (omega arith))) ∙ there)))
       (λ z. elsewhere j w (eqb-false j own z)))))
 
-pub home-kept : (t : ℕ → Bool) (l : List ℕ) → Home l → Home (map (emptied t) l)
-home-kept t l h = record {
+home-key : (t : ℕ → Bool) (l : List ℕ) → Home l → Home (map (emptied t) l)
+home-key t l h = record {
   own = λ j q key.
       let w : j < length l = omega (arith, length-map l (emptied t)) in
       let e = map-at (emptied t) l j w in
@@ -76,9 +93,16 @@ home-kept t l h = record {
       ap (λ (x : ℕ). x % length (map (emptied t) l)) same ∙ ap (λ (x : ℕ). getD l j 0 % x) (length-map l (emptied t)) ∙ h .own j w (omega arith));
 }
 
+pub home-kept : (t : ℕ → Bool) (l : List ℕ) → Home (numbersIn l) → Home (numbersIn (map (emptied (λ w. t (numberIn w))) l))
+home-kept t l h = rw (numbers-emptied t l) (home-key t (numbersIn l) h)
+
 -- told of, and less than k before the acknowledged number
 unfoldable pub upTo : ℕ → ℕ → ℕ → ℕ → Bool
 upTo acked field k e = isAcked acked field e && ltb (back acked e) k
+
+-- the same of a word's number
+abbrev pub toldTo : ℕ → ℕ → ℕ → ℕ → Bool
+toldTo acked field k word = upTo acked field k (numberIn word)
 
 emptied-same : (t u : ℕ → Bool) (e : ℕ) → t e ≡ u e → emptied t e ≡ emptied u e
 unfolding emptied
@@ -105,9 +129,9 @@ next-same x k apart =
     (lt-or-le x k)
 
 module _ (acked field : ℕ) (small : acked < 65536) where
-  no-number : (e : ℕ) → 65536 ≤ e → isAcked acked field e ≡ false
+  none-told : (e : ℕ) → 65536 ≤ e → isAcked acked field e ≡ false
   unfolding isAcked
-  no-number e h = rw (le-ltb e 65536 h)
+  none-told e h = rw (le-ltb e 65536 h)
 
   acked-itself : (e : ℕ) → e < 65536 → back acked e ≡ 0 → isAcked acked field e ≡ true
   unfolding isAcked
@@ -134,7 +158,7 @@ module _ (acked field : ℕ) (small : acked < 65536) where
   more-same k e apart =
       ⊎-elim
       (λ h. rw (next-same (back acked e) k (apart h)))
-      (λ h. rw (no-number e h))
+      (λ h. rw (none-told e h))
       (lt-or-le e 65536)
 
   not-yet : (k e : ℕ) → back acked e ≡ k → upTo acked field k e ≡ false
@@ -145,35 +169,35 @@ module _ (acked field : ℕ) (small : acked < 65536) where
   unfolding upTo
   now-told k e z = rw (lt-ltb (back acked e) (k + 1) (omega arith)) (case (isAcked acked field e) (λ q. rw q) (λ q. rw q))
 
-  taken-here : (k e : ℕ) → k ≤ 32 → e ≡ back acked k → isAcked acked field e ≡ true
-      → emptied (eqb (back acked k)) (emptied (upTo acked field k) e) ≡ emptied (upTo acked field (k + 1)) e
-  taken-here k e most same told =
-      let z : back acked e ≡ k = omega arith in
-      ap (emptied (eqb (back acked k))) (emptied-false (upTo acked field k) e (not-yet k e z))
-      ∙ emptied-true (eqb (back acked k)) e (eq-eqb (back acked k) e (sym same))
-      ∙ sym (emptied-true (upTo acked field (k + 1)) e (now-told k e z ∙ told))
+  taken-here : (k w : ℕ) → k ≤ 32 → numberIn w ≡ back acked k → isAcked acked field (numberIn w) ≡ true
+      → emptied (taking (back acked k)) (emptied (toldTo acked field k) w) ≡ emptied (toldTo acked field (k + 1)) w
+  taken-here k w most same told =
+      let z : back acked (numberIn w) ≡ k = omega arith in
+      ap (emptied (taking (back acked k))) (emptied-false (toldTo acked field k) w (not-yet k (numberIn w) z))
+      ∙ emptied-true (taking (back acked k)) w (eq-eqb (back acked k) (numberIn w) (sym same))
+      ∙ sym (emptied-true (toldTo acked field (k + 1)) w (now-told k (numberIn w) z ∙ told))
 
-  taken-other : (k e : ℕ) → k ≤ 32 → (e ≡ back acked k → ⊥)
-      → emptied (eqb (back acked k)) (emptied (upTo acked field k) e) ≡ emptied (upTo acked field (k + 1)) e
-  taken-other k e most apart =
-      let same = more-same k e (λ h z. apart (omega arith)) in
-      case (upTo acked field k e)
+  taken-other : (k w : ℕ) → k ≤ 32 → (numberIn w ≡ back acked k → ⊥)
+      → emptied (taking (back acked k)) (emptied (toldTo acked field k) w) ≡ emptied (toldTo acked field (k + 1)) w
+  taken-other k w most apart =
+      let same = more-same k (numberIn w) (λ h z. apart (omega arith)) in
+      case (toldTo acked field k w)
       (λ q.
-      ap (emptied (eqb (back acked k))) (emptied-true (upTo acked field k) e q)
-      ∙ emptied-false (eqb (back acked k)) none (ne-eqb (back acked k) none (λ z. omega arith))
-      ∙ sym (emptied-true (upTo acked field (k + 1)) e (same ∙ q)))
+      ap (emptied (taking (back acked k))) (emptied-true (toldTo acked field k) w q)
+      ∙ emptied-false (taking (back acked k)) none (ne-eqb (back acked k) (numberIn none) (λ z. omega (arith, no-number none (omega arith))))
+      ∙ sym (emptied-true (toldTo acked field (k + 1)) w (same ∙ q)))
       (λ q.
-      ap (emptied (eqb (back acked k))) (emptied-false (upTo acked field k) e q)
-      ∙ emptied-false (eqb (back acked k)) e (ne-eqb (back acked k) e (λ z. apart (sym z)))
-      ∙ sym (emptied-false (upTo acked field (k + 1)) e (same ∙ q)))
+      ap (emptied (taking (back acked k))) (emptied-false (toldTo acked field k) w q)
+      ∙ emptied-false (taking (back acked k)) w (ne-eqb (back acked k) (numberIn w) (λ z. apart (sym z)))
+      ∙ sym (emptied-false (toldTo acked field (k + 1)) w (same ∙ q)))
 
   never : (e : ℕ) → upTo acked field 0 e ≡ false
   unfolding upTo
   never e = rw (le-ltb (back acked e) 0 (omega arith)) (and-no (isAcked acked field e))
 
-  pub first-turn : (l : List ℕ) → l ≡ map (emptied (upTo acked field 0)) l
+  pub first-turn : (l : List ℕ) → l ≡ map (emptied (toldTo acked field 0)) l
   first-turn [] = refl
-  first-turn (x ∷ l) = rw (emptied-false (upTo acked field 0) x (never x), ← first-turn l)
+  first-turn (x ∷ l) = rw (emptied-false (toldTo acked field 0) x (never (numberIn x)), ← first-turn l)
 
   -- the number k before is told of by its bit, and the acknowledged number always
   told-of : (k e : ℕ) → k ≤ 32 → e < 65536 → back acked e ≡ k → isAcked acked field e ≡ (eqb k 0 || bit field (k - 1))
@@ -184,35 +208,35 @@ module _ (acked field : ℕ) (small : acked < 65536) where
 
   module _ (k : ℕ) (most : k ≤ 32) where
     pub turn : (eqb k 0 || bit field (k - 1)) ≡ true → (l : List ℕ)
-        → map (emptied (eqb (back acked k))) (map (emptied (upTo acked field k)) l) ≡ map (emptied (upTo acked field (k + 1))) l
+        → map (emptied (taking (back acked k))) (map (emptied (toldTo acked field k)) l) ≡ map (emptied (toldTo acked field (k + 1))) l
     turn told =
-        fused (emptied (eqb (back acked k))) (emptied (upTo acked field k)) (emptied (upTo acked field (k + 1)))
-        (λ e.
-        case (eqb e (back acked k))
+        fused (emptied (taking (back acked k))) (emptied (toldTo acked field k)) (emptied (toldTo acked field (k + 1)))
+        (λ w.
+        case (eqb (numberIn w) (back acked k))
         (λ q.
-        let same = eqb-true e (back acked k) q in
-        taken-here k e most same (told-of k e most (omega arith) (omega arith) ∙ told))
-        (λ q. taken-other k e most (eqb-false e (back acked k) q)))
+        let same = eqb-true (numberIn w) (back acked k) q in
+        taken-here k w most same (told-of k (numberIn w) most (omega arith) (omega arith) ∙ told))
+        (λ q. taken-other k w most (eqb-false (numberIn w) (back acked k) q)))
 
     pub no-turn : (eqb k 0 || bit field (k - 1)) ≡ false → (l : List ℕ)
-        → map (emptied (upTo acked field k)) l ≡ map (emptied (upTo acked field (k + 1))) l
+        → map (emptied (toldTo acked field k)) l ≡ map (emptied (toldTo acked field (k + 1))) l
     no-turn left =
-        alike (emptied (upTo acked field k)) (emptied (upTo acked field (k + 1)))
-        (λ e.
-        emptied-same (upTo acked field k) (upTo acked field (k + 1)) e
-        (case (eqb e (back acked k))
+        alike (emptied (toldTo acked field k)) (emptied (toldTo acked field (k + 1)))
+        (λ w.
+        emptied-same (toldTo acked field k) (toldTo acked field (k + 1)) w
+        (case (eqb (numberIn w) (back acked k))
         (λ q.
-        let same = eqb-true e (back acked k) q in
-        let z : back acked e ≡ k = omega arith in
-        not-yet k e z ∙ sym (now-told k e z ∙ told-of k e most (omega arith) z ∙ left))
-        (λ q. sym (more-same k e (λ h z. eqb-false e (back acked k) q (omega arith))))))
+        let same = eqb-true (numberIn w) (back acked k) q in
+        let z : back acked (numberIn w) ≡ k = omega arith in
+        not-yet k (numberIn w) z ∙ sym (now-told k (numberIn w) z ∙ told-of k (numberIn w) most (omega arith) z ∙ left))
+        (λ q. sym (more-same k (numberIn w) (λ h z. eqb-false (numberIn w) (back acked k) q (omega arith))))))
 
-  pub last-turn : (l : List ℕ) → map (emptied (upTo acked field 33)) l ≡ map (emptied (isAcked acked field)) l
+  pub last-turn : (l : List ℕ) → map (emptied (toldTo acked field 33)) l ≡ map (emptied (isTold acked field)) l
   unfolding upTo
   last-turn =
-      alike (emptied (upTo acked field 33)) (emptied (isAcked acked field))
-      (λ e.
-      emptied-same (upTo acked field 33) (isAcked acked field) e
-      (case (isAcked acked field e)
-      (λ q. rw (q, lt-ltb (back acked e) 33 (acked-near e q)))
+      alike (emptied (toldTo acked field 33)) (emptied (isTold acked field))
+      (λ w.
+      emptied-same (toldTo acked field 33) (isTold acked field) w
+      (case (isAcked acked field (numberIn w))
+      (λ q. rw (q, lt-ltb (back acked (numberIn w)) 33 (acked-near (numberIn w) q)))
       (λ q. rw q)))

@@ -2,22 +2,22 @@
 use mathlib.Core.Path.{_≡_}
 use mathlib.Core.Bool.{Bool, true, false}
 use mathlib.Core.List.{List}
-use Prim.Native.Nat.{ℕ, _≤_, _<_}
+use Prim.Native.Nat.{ℕ, _≤_}
 use lib.ListN.{length, getD}
-use Rattle.keys.specs.Home.{InStep, Home}
-use Rattle.flight.specs.Entry.{lengthOf}
+use Rattle.key_parts.specs.Words.{Placed}
+use Rattle.keys.specs.Home.{Home}
+use Rattle.flight.specs.Entry.{numbersIn}
 use Rattle.flight.specs.Places.{overLong}
 
 -- each number stands at its own place, and no recorded length is over its slot
-pub record AtHome (room : ℕ) (number records : List ℕ) : Type 0 where
-  pub home : Home number
-  pub fits : overLong room number records ≡ false
+pub record AtHome (room : ℕ) (number : List ℕ) : Type 0 where
+  pub home : Home (numbersIn number)
+  pub fits : overLong room number ≡ false
 
 -- the same of one place, where a number is the place added to one of two numbers
-pub record PlaceHome (room lap last : ℕ) (number records : List ℕ) (place : ℕ) : Type 0 where
-  pub step : InStep lap last place (getD number place 0)
-  pub fits : getD number place 0 < 65536 → lengthOf (getD records place 0) ≤ room
+abbrev pub PlaceHome : ℕ → ℕ → ℕ → List ℕ → ℕ → Type 0
+PlaceHome room lap last number place = Placed room lap last place (getD number place 0)
 
 -- what a caller knows of a table: where it says `true`, there is a place, and each number stands at its own
 abbrev pub KnownHome : Bool → List ℕ → Type 0
-KnownHome home number = home ≡ true → (1 ≤ length number) × Home number
+KnownHome home number = home ≡ true → (1 ≤ length number) × Home (numbersIn number)

@@ -10,15 +10,16 @@ ghost use Rattle.laws.specs.Bits.{bit};
 ghost use Rattle.keys.specs.Home.{Home};
 ghost use Rattle.keys.specs.Keys.{firstPlace};
 ghost use Rattle.sequence_buffer.specs.Buffer.{emptied};
-ghost use Rattle.flight.specs.Acked.{isAcked};
+ghost use Rattle.flight.specs.Entry.{numberIn, numbersIn};
+ghost use Rattle.flight.specs.Acked.{isTold};
 ghost use Rattle.flight.specs.Places.{placeOf};
 ghost use Rattle.flight_home.specs.AtHome.{KnownHome};
 use serial::PacketNumber;
 
 // `flight::places::place`. Requires a place.
 pub fn place(number: &[u32], packet: PacketNumber, home: bool) -> usize
-    requires { ⌜ (1 ≤ length (now number)) × (home ≡ true → Home (now number)) ⌝ }
-    ensures { λ r. ⌜ r ≡ placeOf (packet .0) (now (number .entry)) ⌝ }
+    requires { ⌜ (1 ≤ length (now number)) × (home ≡ true → Home (numbersIn (now number))) ⌝ }
+    ensures { λ r. ⌜ r ≡ placeOf (packet .0) (numbersIn (now (number .entry))) ⌝ }
 {
     if home {
         return place_at_home(number, packet);
@@ -28,38 +29,38 @@ pub fn place(number: &[u32], packet: PacketNumber, home: bool) -> usize
 
 // A number that is there stands at its own place, so one whose own place is free goes there.
 fn place_at_home(number: &[u32], packet: PacketNumber) -> usize
-    requires { ⌜ (1 ≤ length (now number)) × Home (now number) ⌝ }
-    ensures { λ r. ⌜ r ≡ placeOf (packet .0) (now (number .entry)) ⌝ }
+    requires { ⌜ (1 ≤ length (now number)) × Home (numbersIn (now number)) ⌝ }
+    ensures { λ r. ⌜ r ≡ placeOf (packet .0) (numbersIn (now (number .entry))) ⌝ }
 {
     let own = (packet.0 as usize) % number.len();
-    let entry = number[own];
-    if entry == packet.0 as u32 {
+    let word = number[own];
+    if word / 32768 == packet.0 as u32 {
         return own;
     }
-    if entry >= 65536 {
+    if word >= key_parts::parts::NO_PACKET {
         return own;
     }
     flight::places::place(number, packet)
 }
 
-// `keys::find`.
+// `flight::places::find`.
 pub fn find(number: &[u32], packet: PacketNumber, home: bool) -> usize
     requires { ⌜ KnownHome home (now number) ⌝ }
-    ensures { λ r. ⌜ r ≡ firstPlace (packet .0) (now (number .entry)) ⌝ }
+    ensures { λ r. ⌜ r ≡ firstPlace (packet .0) (numbersIn (now (number .entry))) ⌝ }
 {
     if home {
         return find_at_home(number, packet);
     }
-    keys::find(number, packet.0)
+    flight::places::find(number, packet)
 }
 
 // A number is at its own place, or nowhere.
 fn find_at_home(number: &[u32], packet: PacketNumber) -> usize
-    requires { ⌜ (1 ≤ length (now number)) × Home (now number) ⌝ }
-    ensures { λ r. ⌜ r ≡ firstPlace (packet .0) (now (number .entry)) ⌝ }
+    requires { ⌜ (1 ≤ length (now number)) × Home (numbersIn (now number)) ⌝ }
+    ensures { λ r. ⌜ r ≡ firstPlace (packet .0) (numbersIn (now (number .entry))) ⌝ }
 {
     let own = (packet.0 as usize) % number.len();
-    if number[own] == packet.0 as u32 {
+    if number[own] / 32768 == packet.0 as u32 {
         return own;
     }
     number.len()
@@ -68,7 +69,7 @@ fn find_at_home(number: &[u32], packet: PacketNumber) -> usize
 // `flight::acked::remove`.
 pub fn remove(number: &mut [u32], acked: PacketNumber, field: u32, home: bool)
     requires { ⌜ KnownHome home (now number) ⌝ }
-    ensures { λ _. ⌜ now (number .exit) ≡ map (emptied (isAcked (acked .0) field)) (now (number .entry)) ⌝ }
+    ensures { λ _. ⌜ now (number .exit) ≡ map (emptied (isTold (acked .0) field)) (now (number .entry)) ⌝ }
 {
     if home {
         remove_at_home(number, acked, field);
@@ -79,8 +80,8 @@ pub fn remove(number: &mut [u32], acked: PacketNumber, field: u32, home: bool)
 
 // The acknowledged number goes, and each number before it whose bit is set.
 fn remove_at_home(number: &mut [u32], acked: PacketNumber, field: u32)
-    requires { ⌜ (1 ≤ length (now number)) × Home (now number) ⌝ }
-    ensures { λ _. ⌜ now (number .exit) ≡ map (emptied (isAcked (acked .0) field)) (now (number .entry)) ⌝ }
+    requires { ⌜ (1 ≤ length (now number)) × Home (numbersIn (now number)) ⌝ }
+    ensures { λ _. ⌜ now (number .exit) ≡ map (emptied (isTold (acked .0) field)) (now (number .entry)) ⌝ }
 {
     let mut i: u16 = 0;
     while i < 33 {
@@ -104,11 +105,11 @@ fn is_told(field: u32, before: u16) -> bool
 
 // Takes a number from its own place, if it is there.
 fn remove_own(number: &mut [u32], packet: PacketNumber)
-    requires { ⌜ (1 ≤ length (now number)) × Home (now number) ⌝ }
-    ensures { λ _. ⌜ now (number .exit) ≡ map (emptied (eqb (packet .0))) (now (number .entry)) ⌝ }
+    requires { ⌜ (1 ≤ length (now number)) × Home (numbersIn (now number)) ⌝ }
+    ensures { λ _. ⌜ now (number .exit) ≡ map (emptied (λ w. eqb (packet .0) (numberIn w))) (now (number .entry)) ⌝ }
 {
     let own = (packet.0 as usize) % number.len();
-    if number[own] == packet.0 as u32 {
+    if number[own] / 32768 == packet.0 as u32 {
         number[own] = sequence_buffer::NONE;
     }
 }

@@ -6,61 +6,51 @@ ghost use mathlib.Core.Bool.{true};
 ghost use mathlib.Core.Logic.{_⊎_};
 ghost use Prim.Native.Nat.{ℕ, _+_, _%_, _≤_, _<_};
 ghost use lib.ListN.{length, getD};
-ghost use Rattle.keys.specs.Home.{InStep};
-ghost use Rattle.flight.specs.Entry.{lengthOf};
+ghost use Rattle.key_parts.specs.Words.{noPacket, Word, Placed};
+ghost use Rattle.serial.specs.Order.{back};
 ghost use Rattle.flight.specs.Places.{sound};
 ghost use Rattle.flight_home.specs.AtHome.{AtHome, PlaceHome};
-use crate::fits;
+use key_parts::parts::NO_PACKET;
 use serial::PacketNumber;
 
 // Each number is at home and no length is over its slot: not 13. A `false` says nothing. `next` is the number that is
 // sent next: it makes the answer quick, not right. Requires sizes in range.
-pub fn is_home(number: &[u32], records: &[u64], room: usize, next: PacketNumber) -> bool
-    requires { ⌜ (1 ≤ length (now number)) × (length (now number) ≤ 256) × (length (now number) ≤ length (now records)) × (room ≤ 16384) ⌝ }
-    ensures { λ r. ⌜ (r ≡ true → AtHome room (now (number .entry)) (now (records .entry))) ⌝ }
+pub fn is_home(number: &[u32], room: usize, next: PacketNumber) -> bool
+    requires { ⌜ (1 ≤ length (now number)) × (length (now number) ≤ 256) × (room ≤ 16384) ⌝ }
+    ensures { λ r. ⌜ (r ≡ true → AtHome room (now (number .entry))) ⌝ }
 {
     let n = number.len();
     let here = next.0 % (n as u16);
     let lap = next.0 - here;
     let last = serial::distance(lap, n as u16);
-    if !is_multiple(last, n) {
+    if !is_lap(lap, last, n) {
         return false;
     }
-    are_parts_home(
-        number,
-        records,
-        room,
-        here as usize,
-        lap as u32,
-        last as u32,
-    )
+    are_parts_home(number, room as u32, here as usize, lap as u32, last as u32)
 }
 
-fn is_multiple(number: u16, of: usize) -> bool
-    requires { ⌜ 1 ≤ of ⌝ }
-    ensures { λ r. ⌜ (r ≡ true → number % of ≡ 0) ⌝ }
+// The lap before one of n numbers is a multiple of n too, unless it lies before 65,535. Requires it.
+fn is_lap(lap: u16, last: u16, n: usize) -> bool
+    requires { ⌜ (1 ≤ n) × (n ≤ 256) × (lap % n ≡ 0) × (last ≡ back lap n) ⌝ }
+    ensures { λ r. ⌜ (r ≡ true → last % n ≡ 0) ⌝ }
 {
-    number as usize % of == 0
+    if n <= lap as usize {
+        return true;
+    }
+    last as usize % n == 0
 }
 
 // Each number is its place added to one of two numbers, and no length is over its slot. `here` is the place of the number
 // that is sent next.
-fn are_parts_home(
-    number: &[u32],
-    records: &[u64],
-    room: usize,
-    here: usize,
-    lap: u32,
-    last: u32,
-) -> bool
-    requires { ⌜ (length (now number) ≤ 256) × (length (now number) ≤ length (now records)) × (room ≤ 16384) × (here ≤ length (now number)) × (lap < 65536) × (last < 65536) ⌝ }
-    ensures { λ r. ⌜ (r ≡ true → (j : ℕ) → j < length (now (number .entry)) → PlaceHome room lap last (now (number .entry)) (now (records .entry)) j) ⌝ }
+fn are_parts_home(number: &[u32], room: u32, here: usize, lap: u32, last: u32) -> bool
+    requires { ⌜ (length (now number) ≤ 256) × (room ≤ 16384) × (here ≤ length (now number)) × (lap < 65536) × (last < 65536) ⌝ }
+    ensures { λ r. ⌜ (r ≡ true → (j : ℕ) → j < length (now (number .entry)) → PlaceHome room lap last (now (number .entry)) j) ⌝ }
 {
     let newest = newest_part(number, here);
     let end = number.len() / key_parts::wide::WIDE * key_parts::wide::WIDE;
     let mut at: usize = 0;
     while at < end {
-        if !is_part_home(number, records, room, here, newest, at, lap, last) {
+        if !is_part_home(number, room, here, newest, at, lap, last) {
             return false;
         }
         at += key_parts::wide::WIDE;
@@ -68,42 +58,38 @@ fn are_parts_home(
     if at == number.len() {
         return true;
     }
-    is_rest_home(number, records, room, after_free(number, at), lap, last)
+    is_rest_home(number, room, after_free(number, at), lap, last)
 }
 
 // Of one part. Requires it.
 fn is_part_home(
     number: &[u32],
-    records: &[u64],
-    room: usize,
+    room: u32,
     here: usize,
     newest: usize,
     at: usize,
     lap: u32,
     last: u32,
 ) -> bool
-    requires { ⌜ (at + 64 ≤ length (now number)) × (at + 64 ≤ length (now records)) × (at < 256) × (room ≤ 16384) × (lap < 65536) × (last < 65536) ⌝ }
-    ensures { λ r. ⌜ (r ≡ true → (k : ℕ) → k < 64 → PlaceHome room lap last (now (number .entry)) (now (records .entry)) (at + k)) ⌝ }
+    requires { ⌜ (at + 64 ≤ length (now number)) × (at < 256) × (room ≤ 16384) × (lap < 65536) × (last < 65536) ⌝ }
+    ensures { λ r. ⌜ (r ≡ true → (k : ℕ) → k < 64 → PlaceHome room lap last (now (number .entry)) (at + k)) ⌝ }
 {
     if is_free(number, newest, at) {
         return true;
     }
-    if !is_in_step(number, here, at, lap, last) {
-        return false;
-    }
-    fits::do_fit(records, at, room)
+    is_in_step(number, room, here, at, lap, last)
 }
 
-// The part has no number. Where it has some, it is the newest number's or one mostly stands at its last place. Requires
+// The part has no packet. Where it has some, it is the newest number's or one mostly stands at its last place. Requires
 // the part.
 fn is_free(number: &[u32], newest: usize, at: usize) -> bool
     requires { ⌜ at + 64 ≤ length (now number) ⌝ }
-    ensures { λ r. ⌜ (r ≡ true → (k : ℕ) → k < 64 → 65536 ≤ getD (now (number .entry)) (at + k) 0) ⌝ }
+    ensures { λ r. ⌜ (r ≡ true → (k : ℕ) → k < 64 → noPacket ≤ getD (now (number .entry)) (at + k) 0) ⌝ }
 {
     if at == newest {
         return false;
     }
-    if number[at + 63] < 65536 {
+    if number[at + 63] < NO_PACKET {
         return false;
     }
     key_parts::wide::none_in(number, at)
@@ -116,30 +102,31 @@ fn newest_part(number: &[u32], here: usize) -> usize
     if here == 0 {
         return number.len();
     }
-    if number[here - 1] >= 65536 {
+    if number[here - 1] >= NO_PACKET {
         return number.len();
     }
     (here - 1) / key_parts::wide::WIDE * key_parts::wide::WIDE
 }
 
-// Each number of the part is its place added to one of two numbers, for nearly every part to the same. Requires the part.
-fn is_in_step(number: &[u32], here: usize, at: usize, lap: u32, last: u32) -> bool
-    requires { ⌜ (at + 64 ≤ length (now number)) × (at < 256) × (lap < 65536) × (last < 65536) ⌝ }
-    ensures { λ r. ⌜ (r ≡ true → (k : ℕ) → k < 64 → InStep lap last (at + k) (getD (now (number .entry)) (at + k) 0)) ⌝ }
+// Each number of the part is its place added to one of two numbers, for nearly every part to the same, and no length is over
+// its slot. Requires the part.
+fn is_in_step(number: &[u32], room: u32, here: usize, at: usize, lap: u32, last: u32) -> bool
+    requires { ⌜ (at + 64 ≤ length (now number)) × (at < 256) × (room ≤ 16384) × (lap < 65536) × (last < 65536) ⌝ }
+    ensures { λ r. ⌜ (r ≡ true → (k : ℕ) → k < 64 → PlaceHome room lap last (now (number .entry)) (at + k)) ⌝ }
 {
-    if follows(number, at, nearer(here, at, lap, last) + at as u32) {
+    if follows(number, room, at, nearer(here, at, lap, last) + at as u32) {
         return true;
     }
-    if !key_parts::parts::in_step(number, at, lap, last) {
+    if !key_parts::parts::in_step(number, at, lap, last, room) {
         return false;
     }
-    key_parts::parts::in_step(number, at + key_parts::parts::PART, lap, last)
+    key_parts::parts::in_step(number, at + key_parts::parts::PART, lap, last, room)
 }
 
-// The part's numbers follow each other. Requires the part.
-fn follows(number: &[u32], at: usize, first: u32) -> bool
-    requires { ⌜ at + 64 ≤ length (now number) ⌝ }
-    ensures { λ r. ⌜ (r ≡ true → (k : ℕ) → k < 64 → getD (now (number .entry)) (at + k) 0 < 65536 → getD (now (number .entry)) (at + k) 0 ≡ first + k) ⌝ }
+// The part's numbers follow each other, and no length is over its slot. Requires the part.
+fn follows(number: &[u32], room: u32, at: usize, first: u32) -> bool
+    requires { ⌜ (at + 64 ≤ length (now number)) × (room ≤ 16384) ⌝ }
+    ensures { λ r. ⌜ (r ≡ true → (k : ℕ) → k < 64 → Word room (first + k) (first + k) (getD (now (number .entry)) (at + k) 0)) ⌝ }
 {
     if first % 64 != 0 {
         return false;
@@ -147,7 +134,7 @@ fn follows(number: &[u32], at: usize, first: u32) -> bool
     if 65536 <= first {
         return false;
     }
-    key_parts::wide::follows(number, at, first)
+    key_parts::wide::follows(number, at, first, room)
 }
 
 // Before the place of the next number stand this lap's numbers, after it the last lap's.
@@ -160,10 +147,10 @@ fn nearer(here: usize, at: usize, lap: u32, last: u32) -> u32
     last
 }
 
-// Where the places behind the last part are to be looked at from: after 32 of them, if those have no number.
+// Where the places behind the last part are to be looked at from: after 32 of them, if those have no packet.
 fn after_free(number: &[u32], at: usize) -> usize
     requires { ⌜ at ≤ length (now number) ⌝ }
-    ensures { λ r. ⌜ (at ≤ r) × (r ≤ length (now (number .entry))) × ((j : ℕ) → at ≤ j → j < r → 65536 ≤ getD (now (number .entry)) j 0) ⌝ }
+    ensures { λ r. ⌜ (at ≤ r) × (r ≤ length (now (number .entry))) × ((j : ℕ) → at ≤ j → j < r → noPacket ≤ getD (now (number .entry)) j 0) ⌝ }
 {
     if is_part_free(number, at) {
         return at + key_parts::parts::PART;
@@ -172,21 +159,14 @@ fn after_free(number: &[u32], at: usize) -> usize
 }
 
 // Of the places behind the last part, one by one.
-fn is_rest_home(
-    number: &[u32],
-    records: &[u64],
-    room: usize,
-    from: usize,
-    lap: u32,
-    last: u32,
-) -> bool
-    requires { ⌜ (from ≤ length (now number)) × (length (now number) ≤ 256) × (length (now number) ≤ length (now records)) × (lap < 65536) × (last < 65536) ⌝ }
-    ensures { λ r. ⌜ (r ≡ true → (j : ℕ) → from ≤ j → j < length (now (number .entry)) → PlaceHome room lap last (now (number .entry)) (now (records .entry)) j) ⌝ }
+fn is_rest_home(number: &[u32], room: u32, from: usize, lap: u32, last: u32) -> bool
+    requires { ⌜ (from ≤ length (now number)) × (length (now number) ≤ 256) × (lap < 65536) × (last < 65536) ⌝ }
+    ensures { λ r. ⌜ (r ≡ true → (j : ℕ) → from ≤ j → j < length (now (number .entry)) → PlaceHome room lap last (now (number .entry)) j) ⌝ }
 {
     let mut i = from;
     while i < number.len() {
-        if number[i] < 65536 {
-            if !is_entry_home(number[i], records[i], room, i as u32, lap, last) {
+        if number[i] < NO_PACKET {
+            if !is_entry_home(number[i], room, i as u32, lap, last) {
                 return false;
             }
         }
@@ -195,45 +175,42 @@ fn is_rest_home(
     true
 }
 
-fn is_entry_home(entry: u32, word: u64, room: usize, place: u32, lap: u32, last: u32) -> bool
+fn is_entry_home(word: u32, room: u32, place: u32, lap: u32, last: u32) -> bool
     requires { ⌜ (place < 65536) × (lap < 65536) × (last < 65536) ⌝ }
-    ensures { λ r. ⌜ (r ≡ true → ((entry ≡ lap + place) ⊎ (entry ≡ last + place)) × (lengthOf word ≤ room)) ⌝ }
+    ensures { λ r. ⌜ (r ≡ true → Placed room lap last place word) ⌝ }
 {
-    if room < flight::entry::payload_length(word) {
+    if room < word % 32768 {
         return false;
     }
-    if entry == lap + place {
+    if word / 32768 == lap + place {
         return true;
     }
-    entry == last + place
+    word / 32768 == last + place
 }
 
-// Not 13, as `flight::places::is_sound` tells it, quickly where the table is at home. Requires a record for each place.
-pub fn is_sound(number: &[u32], records: &[u64], room: usize) -> bool
-    requires { ⌜ length (now number) ≤ length (now records) ⌝ }
-    ensures { λ r. ⌜ r ≡ sound room (now (number .entry)) (now (records .entry)) ⌝ }
+// Not 13, as `flight::places::is_sound` tells it, quickly where the table is at home. Requires at most 256 places.
+pub fn is_sound(number: &[u32], room: usize) -> bool
+    requires { ⌜ length (now number) ≤ 256 ⌝ }
+    ensures { λ r. ⌜ r ≡ sound room (now (number .entry)) ⌝ }
 {
-    if is_seen_home(number, records, room) {
+    if is_seen_home(number, room) {
         return true;
     }
-    flight::places::is_sound(number, records, room)
+    flight::places::is_sound(number, room)
 }
 
 // The first number that is in flight says which are the last ones.
-fn is_seen_home(number: &[u32], records: &[u64], room: usize) -> bool
-    requires { ⌜ length (now number) ≤ length (now records) ⌝ }
-    ensures { λ r. ⌜ (r ≡ true → AtHome room (now (number .entry)) (now (records .entry))) ⌝ }
+fn is_seen_home(number: &[u32], room: usize) -> bool
+    requires { ⌜ length (now number) ≤ 256 ⌝ }
+    ensures { λ r. ⌜ (r ≡ true → AtHome room (now (number .entry))) ⌝ }
 {
     if number.len() < 1 {
-        return false;
-    }
-    if 256 < number.len() {
         return false;
     }
     if 16384 < room {
         return false;
     }
-    is_home(number, records, room, PacketNumber(first_number(number)))
+    is_home(number, room, PacketNumber(first_number(number)))
 }
 
 fn first_number(number: &[u32]) -> u16 {
@@ -242,8 +219,8 @@ fn first_number(number: &[u32]) -> u16 {
         if is_part_free(number, i) {
             i += key_parts::parts::PART;
         } else {
-            if number[i] < 65536 {
-                return number[i] as u16;
+            if number[i] < NO_PACKET {
+                return (number[i] / 32768) as u16;
             }
             i += 1;
         }
@@ -251,9 +228,9 @@ fn first_number(number: &[u32]) -> u16 {
     0
 }
 
-// A part starts here, and has no number.
+// A part starts here, and has no packet.
 fn is_part_free(number: &[u32], at: usize) -> bool
-    ensures { λ r. ⌜ (r ≡ true → (at + 32 ≤ length (now (number .entry))) × ((k : ℕ) → k < 32 → 65536 ≤ getD (now (number .entry)) (at + k) 0)) ⌝ }
+    ensures { λ r. ⌜ (r ≡ true → (at + 32 ≤ length (now (number .entry))) × ((k : ℕ) → k < 32 → noPacket ≤ getD (now (number .entry)) (at + k) 0)) ⌝ }
 {
     if at % key_parts::parts::PART != 0 {
         return false;

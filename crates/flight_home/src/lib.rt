@@ -3,5 +3,4 @@
 // place, and where they do not stand so it walks, as `flight` does. Every function here is for the crates above. It leaves
 // out what is stored and what is dropped: those are `flight`'s.
 pub mod direct;
-mod fits;
 pub mod home;

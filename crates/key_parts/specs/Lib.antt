@@ -1,1 +1,2 @@
 pub mod Laps
+pub mod Words

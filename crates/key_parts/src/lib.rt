@@ -1,5 +1,5 @@
-// Tests of many entries of a column at once, as `keys` has columns: quick ones, which say nothing where they do not hold. Only
-// the crates above call them.
+// Tests of many entries of a column at once: quick ones, which say nothing where they do not hold. `laps` is about keys, as `keys` has
+// them; `parts` and `wide` are about the words of packets in flight. Only the crates above call them.
 pub mod laps;
 pub mod parts;
 pub mod wide;

@@ -12,6 +12,7 @@ use Rattle.terms.specs.declared.Refusal.the-variants.{BadSizes, BadStorage}
 use Rattle.sequence_buffer.specs.Buffer.{fresh}
 use Rattle.received.specs.Record.{slotsOf}
 use Rattle.received.specs.Field.{newestOf, fieldOf}
+use Rattle.flight.specs.Entry.{numbersIn}
 use Rattle.flight.specs.Places.{countOf}
 use Rattle.flight.specs.Lost.{dropOf as lostOf}
 use Rattle.acks.specs.State.{tableOf}
@@ -54,7 +55,7 @@ dropOutput z s output = outputKept z (dropOf z s output) (s .acks) output
 abbrev pub statusOf : Sizes → State → Status
 statusOf z s =
     record {
-      «packets_in_flight» = countOf (tableOf z (s .acks .number));
+      «packets_in_flight» = countOf (numbersIn (tableOf z (s .acks .number)));
       «local_sequence_num» = s .acks .counters .«sequence_number»;
       «remote_sequence_num» = record { 0 = newestOf (s .acks .counters .received .0) };
       «ack_bitfield» = fieldOf (s .acks .counters .received .0) (slotsOf (s .acks .received));

@@ -14,7 +14,7 @@ pub fn dropped(
     end: End,
     received: &[u32],
     number: &mut [u32],
-    records: &[u64],
+    records: &[u32],
     payloads: &[u8],
     slots: &[u32],
     entry: &[u64],

@@ -24,7 +24,7 @@ pub fn new(
     sizes: Sizes,
     received: &mut [u32],
     number: &mut [u32],
-    records: &[u64],
+    records: &[u32],
     payloads: &[u8],
     slots: &mut [u32],
     entry: &[u64],

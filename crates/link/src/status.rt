@@ -28,7 +28,7 @@ pub fn report(
     end: End,
     received: &[u32],
     number: &[u32],
-    records: &[u64],
+    records: &[u32],
     payloads: &[u8],
     slots: &[u32],
     entry: &[u64],

@@ -13,7 +13,7 @@ pub fn receive(
     end: End,
     received: &mut [u32],
     number: &mut [u32],
-    records: &[u64],
+    records: &[u32],
     payloads: &[u8],
     slots: &mut [u32],
     entry: &mut [u64],

@@ -20,7 +20,7 @@ pub fn take(
     end: End,
     received: &[u32],
     number: &[u32],
-    records: &[u64],
+    records: &[u32],
     payloads: &[u8],
     slots: &[u32],
     entry: &[u64],

@@ -215,6 +215,6 @@ through-open z s (takes id output) g = rw g (next (z .«fragment_size») (s .ord
 through-open z s (sends delivery ordering stream payload output) g = rw g (sent z s _ payload output)
 through-open z s (resends packet payload output) g =
     case (leb 3 (packet .ordering)) (λ a. rw (g, a) (later 4 (omega arith) (omega arith))) (λ a. rw (g, a) (sent z s _ payload output))
-through-open z s (writes n j output) g = case (hasFurther z (s .acks .number) (s .acks .records) n j) (λ a. rw (g, a) nothing) (λ a. rw (g, a) nothing)
+through-open z s (writes n j output) g = case (hasFurther z (s .acks .number) n j) (λ a. rw (g, a) nothing) (λ a. rw (g, a) nothing)
 through-open z s (drops output) g = rw g (lost (lostOf (s .acks .counters .«remote_ack_sequence_num» .0) (tableOf z (s .acks .number)) (s .acks .records)))
 through-open z s (asks output) g = rw g nothing

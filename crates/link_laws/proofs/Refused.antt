@@ -281,7 +281,7 @@ module _ (z : Sizes) (s : State) (n j : ℕ) (output : List ℕ) (why : Refusal)
     where
       go : (g : Gate) → gateOf z s output ≡ g → fragmentOf z s n j output ≡ NotWritten why → fragmentOutput z s n j output ≡ output
       go (Shut reason) q = rw q (λ e. refl)
-      go Open q = case (hasFurther z (s .acks .number) (s .acks .records) n j) (λ t. rw (q, t) (λ e. more-apart _ why e)) (λ t. rw (q, t) (λ e. refl))
+      go Open q = case (hasFurther z (s .acks .number) n j) (λ t. rw (q, t) (λ e. more-apart _ why e)) (λ t. rw (q, t) (λ e. refl))
 
 pub leaves : RefusedLeaves
 leaves =

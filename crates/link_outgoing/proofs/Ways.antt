@@ -72,8 +72,8 @@ module _ (z : Sizes) (s : State) (output : List ℕ) where
   fragment-shut why n j e = rw e (refl, refl)
 
   pub fragment-open : (r : Further) (out : List ℕ) (n j : ℕ) → gateOf z s output ≡ Open
-      → r ≡ furtherOf z (s .acks .counters) (s .acks .received) (s .acks .number) (s .acks .records) (s .acks .bytes) n j
-      → out ≡ furtherOutput z (s .acks .counters) (s .acks .received) (s .acks .number) (s .acks .records) (s .acks .bytes) n j output
+      → r ≡ furtherOf z (s .acks .counters) (s .acks .received) (s .acks .number) (s .acks .bytes) n j
+      → out ≡ furtherOutput z (s .acks .counters) (s .acks .received) (s .acks .number) (s .acks .bytes) n j output
       → (r ≡ fragmentOf z s n j output) × (out ≡ fragmentOutput z s n j output)
   unfolding fragmentOf fragmentOutput
   fragment-open r out n j e a o = rw e (a, o)

@@ -50,9 +50,9 @@ resendOf z s sent payload output =
 unfoldable pub fragmentOf : Sizes → State → ℕ → ℕ → List ℕ → Further
 fragmentOf z s n j output =
     through (gateOf z s output) NotWritten
-    (furtherOf z (s .acks .counters) (s .acks .received) (s .acks .number) (s .acks .records) (s .acks .bytes) n j)
+    (furtherOf z (s .acks .counters) (s .acks .received) (s .acks .number) (s .acks .bytes) n j)
 
 unfoldable pub fragmentOutput : Sizes → State → ℕ → ℕ → List ℕ → List ℕ
 fragmentOutput z s n j output =
     through (gateOf z s output) (λ (why : Refusal). output)
-    (furtherOutput z (s .acks .counters) (s .acks .received) (s .acks .number) (s .acks .records) (s .acks .bytes) n j output)
+    (furtherOutput z (s .acks .counters) (s .acks .received) (s .acks .number) (s .acks .bytes) n j output)

@@ -13,7 +13,8 @@ use Rattle.sequence_buffer.specs.Buffer.{fresh, emptied, inserted}
 use Rattle.sequence_buffer.specs.Facts.{Buffer, insert, called, new}
 use Rattle.received.specs.Record.{slotCount}
 use Rattle.received.specs.Field.{fieldOf}
-use Rattle.flight.specs.Acked.{isAcked}
+use Rattle.flight.specs.Entry.{wordOf, numbersIn}
+use Rattle.flight.specs.Acked.{isTold}
 use Rattle.flight.specs.Lost.{dropOf, numberLeft}
 use Rattle.flight.specs.declared.lost.Drop.{Drop}
 use Rattle.flight.specs.declared.lost.Drop.the-variants.{Nothing, Packet}
@@ -87,6 +88,10 @@ unfoldable pub numbers : List ℕ → List ℕ
 numbers [] = []
 numbers (x ∷ xs) = cond (ltb x 65536) (x ∷ numbers xs) (numbers xs)
 
+-- packets of these numbers in flight, without a byte
+abbrev pub flying : List ℕ → List ℕ
+flying ns = map (λ n. wordOf n 0) ns
+
 -- what is dropped, one a call, in so many calls
 unfoldable pub droppedFirst : Drop → List ℕ → (List ℕ → List ℕ) → List ℕ
 droppedFirst Nothing number later = []
@@ -157,8 +162,8 @@ unfoldable pub holds : Case → Bool
 holds (order a b answer) = Bool·beq (greater a b) answer
 holds (accepts size n answer) = Bool·beq (accepted (inserted 0 (fresh size) n .insertion)) answer
 holds (tells ns field) = eqb (fieldAfter ns) field
-holds (leaves acked field number left) = same (numbers (map (emptied (isAcked acked field)) number)) left
-holds (drops remote number list) = same (dropped (length number + 1) remote number) list
+holds (leaves acked field ns left) = same (numbers (numbersIn (map (emptied (isTold acked field)) (flying ns)))) left
+holds (drops remote ns list) = same (dropped (length ns + 1) remote (flying ns)) list
 holds (cuts f n lengths) = same (map length (pieces f (replicate n 0))) lengths
 holds (splits f m n answer) = eqb (splitNumber (splitOf (sizes f m) n)) answer
 holds (waits i) = isHeld (planOf freshStream (replicate 64 0) i)

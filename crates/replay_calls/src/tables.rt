@@ -3,7 +3,7 @@
 pub struct Tables {
     pub received: [u32; 33],
     pub number: [u32; 256],
-    pub records: [u64; 256],
+    pub records: [u32; 256],
     pub slots: [u32; 64],
     pub entry: [u64; 64],
     pub header: [u64; 64],
@@ -15,7 +15,7 @@ pub fn none() -> Tables {
     Tables {
         received: [0u32; 33],
         number: [0u32; 256],
-        records: [0u64; 256],
+        records: [0u32; 256],
         slots: [0u32; 64],
         entry: [0u64; 64],
         header: [0u64; 64],

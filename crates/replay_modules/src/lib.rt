@@ -37,7 +37,7 @@ pub struct Packets {
     pub state: ack::State,
     pub received: [u32; 33],
     pub number: [u32; 256],
-    pub records: [u64; 256],
+    pub records: [u32; 256],
     pub said: Said,
 }
 
@@ -93,7 +93,7 @@ fn no_packets() -> Packets {
         state: ack::none(),
         received: [0u32; 33],
         number: [0u32; 256],
-        records: [0u64; 256],
+        records: [0u32; 256],
         said: Said::Nothing,
     }
 }

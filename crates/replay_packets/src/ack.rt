@@ -39,7 +39,7 @@ pub fn step(
     state: State,
     received: &mut [u32],
     number: &mut [u32],
-    records: &mut [u64],
+    records: &mut [u32],
     bytes: &mut [u8],
     output: &mut [u8],
     tag: u8,
@@ -115,7 +115,7 @@ fn sizes() -> Sizes {
     }
 }
 
-fn new(received: &mut [u32], number: &mut [u32], records: &[u64]) -> Done {
+fn new(received: &mut [u32], number: &mut [u32], records: &[u32]) -> Done {
     let counters = acknowledgment::new(received, number);
     print::text(b"ack new");
     tell_state(counters, received, number, records);
@@ -126,7 +126,7 @@ fn perform(
     counters: Acknowledgment,
     received: &mut [u32],
     number: &mut [u32],
-    records: &mut [u64],
+    records: &mut [u32],
     bytes: &mut [u8],
     output: &mut [u8],
     tag: u8,
@@ -156,7 +156,7 @@ fn begin(tag: u8, local: PacketNumber, body: &[u8]) {
 }
 
 // Next packet number, reported newest, field, how many in flight.
-fn tell_state(counters: Acknowledgment, received: &[u32], number: &[u32], records: &[u64]) {
+fn tell_state(counters: Acknowledgment, received: &[u32], number: &[u32], records: &[u32]) {
     let local = counters.local_sequence_num();
     let newest = counters.remote_sequence_num();
     let field = field_of(acknowledgment::ack_bitfield(sizes(), counters, received));
@@ -192,7 +192,7 @@ fn turns(
     counters: Acknowledgment,
     received: &mut [u32],
     number: &mut [u32],
-    records: &mut [u64],
+    records: &mut [u32],
     bytes: &mut [u8],
     tag: u8,
     body: &[u8],
@@ -219,7 +219,7 @@ fn turn(
     before: Acknowledgment,
     received: &mut [u32],
     number: &mut [u32],
-    records: &mut [u64],
+    records: &mut [u32],
     bytes: &mut [u8],
     tag: u8,
     body: &[u8],
@@ -233,7 +233,7 @@ fn outgoing(
     before: Acknowledgment,
     received: &[u32],
     number: &mut [u32],
-    records: &mut [u64],
+    records: &mut [u32],
     bytes: &mut [u8],
     tag: u8,
     body: &[u8],
@@ -260,7 +260,7 @@ fn incoming(
     before: Acknowledgment,
     received: &mut [u32],
     number: &mut [u32],
-    records: &[u64],
+    records: &[u32],
     bytes: &[u8],
     tag: u8,
     body: &[u8],
@@ -347,7 +347,7 @@ fn drops(
     counters: Acknowledgment,
     received: &[u32],
     number: &mut [u32],
-    records: &[u64],
+    records: &[u32],
     bytes: &[u8],
     output: &mut [u8],
     tag: u8,
@@ -373,7 +373,7 @@ fn drop_one(
     counters: Acknowledgment,
     received: &[u32],
     number: &mut [u32],
-    records: &[u64],
+    records: &[u32],
     bytes: &[u8],
     output: &mut [u8],
     left: usize,

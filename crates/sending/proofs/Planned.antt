@@ -14,7 +14,9 @@ use Rattle.terms.specs.declared.Sizes.{Sizes}
 use Rattle.terms.specs.declared.Refusal.{Refusal}
 use Rattle.terms.specs.declared.Refusal.the-variants.{BadHeader, TooLong, Full, NoStream, ExceededMaxFragments}
 use Rattle.splitter.specs.Split.{needed}
+use Rattle.flight.specs.Entry.{numbersIn}
 use Rattle.flight.proofs.Room.{place-le, full-place}
+use Rattle.flight.proofs.Words.{numbers-length}
 use Rattle.arranging_plan.specs.declared.ids.StreamIds.{StreamIds}
 use Rattle.arranging_plan.specs.Ids.{placeOf}
 use Rattle.arranging_plan.specs.declared.ordered.OrderingStreams.{OrderingStreams}
@@ -39,11 +41,13 @@ module _ (f n : ℕ) (i : Item) where
 pub no-place : (d : DeliveryGuarantee) (n : ℕ) (number : List ℕ) → 1 ≤ length number
     → isFull d n number ≡ eqb (flightPlace d n number) (length number)
 no-place Unreliable n number some = sym (ne-eqb 0 (length number) (λ e. omega arith))
-no-place Reliable n number some = full-place n number some
+no-place Reliable n number some =
+    full-place n (numbersIn number) (rw (numbers-length number) some) ∙ ap (eqb (flightPlace Reliable n number)) (numbers-length number)
 
 place-most : (d : DeliveryGuarantee) (n : ℕ) (number : List ℕ) → 1 ≤ length number → flightPlace d n number ≤ length number
 place-most Unreliable n number some = omega arith
-place-most Reliable n number some = place-le n number some
+place-most Reliable n number some =
+    omega (arith, place-le n (numbersIn number) (rw (numbers-length number) some), numbers-length number)
 
 four : (s : StreamIds) (id : ℕ) → s .made ≤ 4 → placeOf s id ≤ 4
 four s id h = omega (arith, first-le id (take (s .made) (s .ids)), take-most (s .made) (s .ids))

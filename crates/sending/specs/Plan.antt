@@ -12,6 +12,7 @@ use Rattle.packet_table.specs.declared.DeliveryGuarantee.the-variants.{Unreliab
 use Rattle.packet_table.specs.declared.OrderingGuarantee.{OrderingGuarantee}
 use Rattle.packet_table.specs.declared.OrderingGuarantee.the-variants.{None, Sequenced, Ordered}
 use Rattle.splitter.specs.Split.{needed}
+use Rattle.flight.specs.Entry.{numbersIn}
 use Rattle.flight.specs.Places.{placeOf as placeInFlight, full}
 use Rattle.arranging_plan.specs.Ids.{placeOf}
 use Rattle.arranging_plan.specs.declared.ordered.OrderingStreams.{OrderingStreams}
@@ -46,11 +47,11 @@ streamPlace i ordered sequenced = placeBy (i .ordering) (i .stream) ordered sequ
 -- 6: "a reliable send finds N other numbers in flight"
 abbrev pub isFull : DeliveryGuarantee → ℕ → List ℕ → Bool
 isFull Unreliable n number = false
-isFull Reliable n number = full n number
+isFull Reliable n number = full n (numbersIn number)
 
 abbrev pub flightPlace : DeliveryGuarantee → ℕ → List ℕ → ℕ
 flightPlace Unreliable n number = 0
-flightPlace Reliable n number = placeInFlight n number
+flightPlace Reliable n number = placeInFlight n (numbersIn number)
 
 -- n is the local number, `number` the N places in flight
 unfoldable pub planOf : Sizes → ℕ → OrderingStreams → SequencingStreams → List ℕ → Item → ℕ → Plan

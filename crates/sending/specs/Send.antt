@@ -11,7 +11,7 @@ use Rattle.terms.specs.Sizes.{inRange}
 use Rattle.terms.specs.Refusals.{numberOf}
 use Rattle.terms.specs.declared.Sizes.{Sizes}
 use Rattle.received.specs.Record.{slotCount}
-use Rattle.flight.specs.Entry.{packed}
+use Rattle.flight.specs.Entry.{wordOf, packed}
 use Rattle.flight.specs.declared.SentPacket.{SentPacket}
 use Rattle.acks.specs.State.{State as Acks, tableOf, sentOne}
 use Rattle.acks.specs.declared.Acknowledgment.{Acknowledgment}
@@ -91,8 +91,8 @@ keptBy Unreliable c f at number records bytes sent payload = record { counters =
 keptBy Reliable c f at number records bytes sent payload =
     record {
       counters = sentOne c;
-      number = set number at (c .«sequence_number» .0);
-      records = set records at (packed sent (length payload));
+      number = set number at (wordOf (c .«sequence_number» .0) (length payload));
+      records = set records at (packed sent);
       bytes = paste bytes (at * (16 * f)) payload (length payload);
     }
 

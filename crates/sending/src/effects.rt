@@ -34,7 +34,7 @@ pub fn perform(
     end: End,
     received: &[u32],
     number: &mut [u32],
-    records: &mut [u64],
+    records: &mut [u32],
     payloads: &mut [u8],
     item: Item,
     sending: Sending,
@@ -173,7 +173,7 @@ fn keep(
     f: usize,
     at: usize,
     number: &mut [u32],
-    records: &mut [u64],
+    records: &mut [u32],
     payloads: &mut [u8],
     payload: &[u8],
 ) -> Acknowledgment

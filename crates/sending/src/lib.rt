@@ -44,7 +44,7 @@ pub fn transmit(
     end: End,
     received: &[u32],
     number: &mut [u32],
-    records: &mut [u64],
+    records: &mut [u32],
     payloads: &mut [u8],
     slots: &[u32],
     entry: &[u64],

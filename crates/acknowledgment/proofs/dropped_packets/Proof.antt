@@ -54,7 +54,7 @@ table c =
       few = omega (arith, r .n, w);
       recorded = omega (arith, w, l .recorded);
       slots = rw w (l .room);
-      fits = sound-means z (now (c .before .before .before .before .before .before .before .before .before .before .before .before .before .before .before .before .before .before .args .received)) (now (c .before .before .before .before .before .before .before .before .before .before .before .before .before .before .before .before .before .before .args .number)) (now (c .before .before .before .before .before .before .before .before .before .before .before .before .before .before .before .before .before .before .args .records)) (sound c) .fits;
+      fits = sound-means z (now (c .before .before .before .before .before .before .before .before .before .before .before .before .before .before .before .before .before .before .args .received)) (now (c .before .before .before .before .before .before .before .before .before .before .before .before .before .before .before .before .before .before .args .number)) (sound c) .fits;
     }
 
 -- the output is as long as stated: 16 x F + 17
@@ -102,12 +102,12 @@ returns-3 c =
 is-home-requires : tie.Need-is-home-requires
 is-home-requires c κs =
     let l = lengths (c .before .before .before .before) in
-    (in-range (c .before .before .before .before .before .before .before), l .numbers, l .recorded)
+    (in-range (c .before .before .before .before .before .before .before), l .numbers)
 
 is-sound-requires : tie.Need-is-sound-requires
 is-sound-requires c κs =
     let l = lengths (c .before .before .before .before .before .before) in
-    (in-range (c .before .before .before .before .before .before .before .before .before), l .slots, l .numbers, l .recorded, c .before .is-home .ensures)
+    (in-range (c .before .before .before .before .before .before .before .before .before), l .slots, l .numbers, c .before .is-home .ensures)
 
 same-length-3 : tie.Need-same-length-3
 same-length-3 c = refl

@@ -64,12 +64,12 @@ returns-2 c =
 is-home-requires : tie.Need-is-home-requires
 is-home-requires c κs =
     let l = lengths (c .before .before) in
-    (in-range (c .before .before .before .before .before .before), l .numbers, l .recorded)
+    (in-range (c .before .before .before .before .before .before), l .numbers)
 
 is-sound-requires : tie.Need-is-sound-requires
 is-sound-requires c κs =
     let l = lengths (c .before .before .before .before .before) in
-    (in-range (c .before .before .before .before .before .before .before .before .before), l .slots, l .numbers, l .recorded, c .before .before .is-home .ensures)
+    (in-range (c .before .before .before .before .before .before .before .before .before), l .slots, l .numbers, c .before .before .is-home .ensures)
 
 same-length-3 : tie.Need-same-length-3
 same-length-3 c = refl

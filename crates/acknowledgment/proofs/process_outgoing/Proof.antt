@@ -18,8 +18,10 @@ use lib.Dec.{eqb, ltb}
 use native.Mathlib.Nat.{mul-le-mul, mul-le-mul-right}
 use borrow.Author.Tests.{lt-ltb, le-ltb, eq-eqb, ne-eqb}
 use Rattle.laws.proofs.Slots.{slot-end}
+use Rattle.flight.specs.Entry.{numbersIn}
 use Rattle.flight.specs.Places.{placeOf, full}
 use Rattle.flight.proofs.Room.{place-le, full-place}
+use Rattle.flight.proofs.Words.{numbers-length}
 use Rattle.acks.specs.Gate.{tooLong}
 use Rattle.acknowledgment.specs.Calls.{isLent, isSound, outgoingOf}
 use Rattle.acknowledgment.proofs.Kept.{not-sent, stored}
@@ -36,7 +38,7 @@ long c = sym (c .before .is-lent .ensures) ∙ on (c .before .is-lent .result) (
 lengths : (c : tie.Else2) → Lent (c .before .before .before .before .before .before .before .before .before .before .before .before .args .sizes) (now (c .before .before .before .before .before .before .before .before .before .before .before .before .args .received)) (now (c .before .before .before .before .before .before .before .before .before .before .before .before .args .number)) (now (c .before .before .before .before .before .before .before .before .before .before .before .before .args .records)) (now (c .before .before .before .before .before .before .before .before .before .before .before .before .args .bytes))
 lengths c = lent-means (c .before .before .before .before .before .before .before .before .before .before .before .before .args .sizes) (now (c .before .before .before .before .before .before .before .before .before .before .before .before .args .received)) (now (c .before .before .before .before .before .before .before .before .before .before .before .before .args .number)) (now (c .before .before .before .before .before .before .before .before .before .before .before .before .args .records)) (now (c .before .before .before .before .before .before .before .before .before .before .before .before .args .bytes)) (long c)
 
-sound : (c : tie.Else3) → isSound (c .before .before .before .before .before .before .before .before .before .before .before .before .before .before .before .before .before .before .before .before .args .sizes) (end (c .before .before .before .before .before .before .before .before .before .before .before .before .before .before .before .before .before .before .before .before)) ≡ true
+sound : (c : tie.Else3) → isSound (c .before .before .before .before .before .before .before .before .before .before .before .before .before .before .before .before .before .before .args .sizes) (end (c .before .before .before .before .before .before .before .before .before .before .before .before .before .before .before .before .before .before)) ≡ true
 sound c = sym (c .before .is-sound .ensures) ∙ on (c .before .is-sound .result) (c .if3 .left)
 
 whole : (c : tie.Else2) → length (tableOf (c .before .before .before .before .before .before .before .before .before .before .before .before .args .sizes) (now (c .before .before .before .before .before .before .before .before .before .before .before .before .args .number))) ≡ c .before .before .before .before .before .before .before .before .before .before .before .before .args .sizes .«packets_in_flight»
@@ -45,28 +47,35 @@ whole c = length-take-le (c .before .before .before .before .before .before .bef
 sizes : (c : tie.Else1) → InRange (c .before .before .before .before .before .before .before .args .sizes)
 sizes c = in-range-means (c .before .before .before .before .before .before .before .args .sizes) (in-range c)
 
-short : (c : tie.Else4) → tooLong (c .before .before .before .before .before .before .before .before .before .before .before .before .before .before .before .before .before .before .before .before .before .before .args .sizes) (c .before .before .before .before .before .before .before .before .before .before .before .before .before .before .before .before .before .before .before .before .before .before .args .sent) (length (now (c .before .before .before .before .before .before .before .before .before .before .before .before .before .before .before .before .before .before .before .before .before .before .args .payload))) ≡ false
+short : (c : tie.Else4) → tooLong (c .before .before .before .before .before .before .before .before .before .before .before .before .before .before .before .before .before .before .before .before .args .sizes) (c .before .before .before .before .before .before .before .before .before .before .before .before .before .before .before .before .before .before .before .before .args .sent) (length (now (c .before .before .before .before .before .before .before .before .before .before .before .before .before .before .before .before .before .before .before .before .args .payload))) ≡ false
 short c = sym (c .before .is-too-long .ensures) ∙ c .if4 .left
 
-few : (c : tie.Else5) → ltb (c .before .before .before .before .before .before .before .before .before .before .before .before .before .before .before .before .before .before .before .before .before .before .before .before .args .sizes .«max_fragments» * c .before .before .before .before .before .before .before .before .before .before .before .before .before .before .before .before .before .before .before .before .before .before .before .before .args .sizes .«fragment_size») (length (now (c .before .before .before .before .before .before .before .before .before .before .before .before .before .before .before .before .before .before .before .before .before .before .before .before .args .payload))) ≡ false
+few : (c : tie.Else5) → ltb (c .before .before .before .before .before .before .before .before .before .before .before .before .before .before .before .before .before .before .before .before .before .before .args .sizes .«max_fragments» * c .before .before .before .before .before .before .before .before .before .before .before .before .before .before .before .before .before .before .before .before .before .before .args .sizes .«fragment_size») (length (now (c .before .before .before .before .before .before .before .before .before .before .before .before .before .before .before .before .before .before .before .before .before .before .args .payload))) ≡ false
 few c = le-ltb _ _ (c .if5 .left)
 
 some : (c : tie.Else2) → 1 ≤ length (tableOf (c .before .before .before .before .before .before .before .before .before .before .before .before .args .sizes) (now (c .before .before .before .before .before .before .before .before .before .before .before .before .args .number)))
 some c = omega (arith, whole c, sizes (c .before .before .before .before .before) .n .0)
 
+-- its numbers
+numbered : (c : tie.Else2) → length (numbersIn (tableOf (c .before .before .before .before .before .before .before .before .before .before .before .before .args .sizes) (now (c .before .before .before .before .before .before .before .before .before .before .before .before .args .number)))) ≡ c .before .before .before .before .before .before .before .before .before .before .before .before .args .sizes .«packets_in_flight»
+numbered c = numbers-length (tableOf (c .before .before .before .before .before .before .before .before .before .before .before .before .args .sizes) (now (c .before .before .before .before .before .before .before .before .before .before .before .before .args .number))) ∙ whole c
+
+some-number : (c : tie.Else2) → 1 ≤ length (numbersIn (tableOf (c .before .before .before .before .before .before .before .before .before .before .before .before .args .sizes) (now (c .before .before .before .before .before .before .before .before .before .before .before .before .args .number))))
+some-number c = omega (arith, numbered c, sizes (c .before .before .before .before .before) .n .0)
+
 -- the place is that of the local number
-placed : (c : tie.After-place) → c .place .result ≡ placeOf (c .before .before .before .before .before .before .before .before .before .before .before .before .before .before .before .before .before .before .before .before .before .before .before .before .before .before .before .args .state .«sequence_number» .0) (tableOf (c .before .before .before .before .before .before .before .before .before .before .before .before .before .before .before .before .before .before .before .before .before .before .before .before .before .before .before .args .sizes) (now (c .before .before .before .before .before .before .before .before .before .before .before .before .before .before .before .before .before .before .before .before .before .before .before .before .before .before .before .args .number)))
+placed : (c : tie.After-place) → c .place .result ≡ placeOf (c .before .before .before .before .before .before .before .before .before .before .before .before .before .before .before .before .before .before .before .before .before .before .before .before .before .args .state .«sequence_number» .0) (numbersIn (tableOf (c .before .before .before .before .before .before .before .before .before .before .before .before .before .before .before .before .before .before .before .before .before .before .before .before .before .args .sizes) (now (c .before .before .before .before .before .before .before .before .before .before .before .before .before .before .before .before .before .before .before .before .before .before .before .before .before .args .number))))
 placed c = c .place .ensures
 
-within : (c : tie.Else6) → c .before .place .result < c .before .before .before .before .before .before .before .before .before .before .before .before .before .before .before .before .before .before .before .before .before .before .before .before .before .before .before .before .args .sizes .«packets_in_flight»
+within : (c : tie.Else6) → c .before .place .result < c .before .before .before .before .before .before .before .before .before .before .before .before .before .before .before .before .before .before .before .before .before .before .before .before .before .before .args .sizes .«packets_in_flight»
 within c =
-    let le = place-le (c .before .before .before .before .before .before .before .before .before .before .before .before .before .before .before .before .before .before .before .before .before .before .before .before .before .before .before .before .args .state .«sequence_number» .0) (tableOf (c .before .before .before .before .before .before .before .before .before .before .before .before .before .before .before .before .before .before .before .before .before .before .before .before .before .before .before .before .args .sizes) (now (c .before .before .before .before .before .before .before .before .before .before .before .before .before .before .before .before .before .before .before .before .before .before .before .before .before .before .before .before .args .number))) (some (c .before .before .before .before .before .before .before .before .before .before .before .before .before .before .before .before)) in
-    omega (arith, c .if6 .left, le, placed (c .before), whole (c .before .before .before .before .before .before .before .before .before .before .before .before .before .before .before .before))
+    let le = place-le (c .before .before .before .before .before .before .before .before .before .before .before .before .before .before .before .before .before .before .before .before .before .before .before .before .before .before .args .state .«sequence_number» .0) (numbersIn (tableOf (c .before .before .before .before .before .before .before .before .before .before .before .before .before .before .before .before .before .before .before .before .before .before .before .before .before .before .args .sizes) (now (c .before .before .before .before .before .before .before .before .before .before .before .before .before .before .before .before .before .before .before .before .before .before .before .before .before .before .args .number)))) (some-number (c .before .before .before .before .before .before .before .before .before .before .before .before .before .before)) in
+    omega (arith, c .if6 .left, le, placed (c .before), numbered (c .before .before .before .before .before .before .before .before .before .before .before .before .before .before))
 
-fullness : (c : tie.After-place) → full (c .before .before .before .before .before .before .before .before .before .before .before .before .before .before .before .before .before .before .before .before .before .before .before .before .before .before .before .args .state .«sequence_number» .0) (tableOf (c .before .before .before .before .before .before .before .before .before .before .before .before .before .before .before .before .before .before .before .before .before .before .before .before .before .before .before .args .sizes) (now (c .before .before .before .before .before .before .before .before .before .before .before .before .before .before .before .before .before .before .before .before .before .before .before .before .before .before .before .args .number))) ≡ eqb (c .place .result) (c .before .before .before .before .before .before .before .before .before .before .before .before .before .before .before .before .before .before .before .before .before .before .before .before .before .before .before .args .sizes .«packets_in_flight»)
+fullness : (c : tie.After-place) → full (c .before .before .before .before .before .before .before .before .before .before .before .before .before .before .before .before .before .before .before .before .before .before .before .before .before .args .state .«sequence_number» .0) (numbersIn (tableOf (c .before .before .before .before .before .before .before .before .before .before .before .before .before .before .before .before .before .before .before .before .before .before .before .before .before .args .sizes) (now (c .before .before .before .before .before .before .before .before .before .before .before .before .before .before .before .before .before .before .before .before .before .before .before .before .before .args .number)))) ≡ eqb (c .place .result) (c .before .before .before .before .before .before .before .before .before .before .before .before .before .before .before .before .before .before .before .before .before .before .before .before .before .args .sizes .«packets_in_flight»)
 fullness c =
-    full-place (c .before .before .before .before .before .before .before .before .before .before .before .before .before .before .before .before .before .before .before .before .before .before .before .before .before .before .before .args .state .«sequence_number» .0) (tableOf (c .before .before .before .before .before .before .before .before .before .before .before .before .before .before .before .before .before .before .before .before .before .before .before .before .before .before .before .args .sizes) (now (c .before .before .before .before .before .before .before .before .before .before .before .before .before .before .before .before .before .before .before .before .before .before .before .before .before .before .before .args .number))) (some (c .before .before .before .before .before .before .before .before .before .before .before .before .before .before .before))
-    ∙ rw (← placed c, whole (c .before .before .before .before .before .before .before .before .before .before .before .before .before .before .before))
+    full-place (c .before .before .before .before .before .before .before .before .before .before .before .before .before .before .before .before .before .before .before .before .before .before .before .before .before .args .state .«sequence_number» .0) (numbersIn (tableOf (c .before .before .before .before .before .before .before .before .before .before .before .before .before .before .before .before .before .before .before .before .before .before .before .before .before .args .sizes) (now (c .before .before .before .before .before .before .before .before .before .before .before .before .before .before .before .before .before .before .before .before .before .before .before .before .before .args .number)))) (some-number (c .before .before .before .before .before .before .before .before .before .before .before .before .before))
+    ∙ rw (← placed c, numbered (c .before .before .before .before .before .before .before .before .before .before .before .before .before))
 
 in-range-requires : tie.Need-in-range-requires
 in-range-requires c κs = tt
@@ -97,13 +106,13 @@ returns-2 c =
 
 is-home-requires : tie.Need-is-home-requires
 is-home-requires c κs =
-    let l = lengths (c .before .before .before) in
-    (in-range (c .before .before .before .before .before .before .before .before), l .numbers, l .recorded)
+    let l = lengths (c .before .before) in
+    (in-range (c .before .before .before .before .before .before .before), l .numbers)
 
 is-sound-requires : tie.Need-is-sound-requires
 is-sound-requires c κs =
-    let l = lengths (c .before .before .before .before .before .before) in
-    (in-range (c .before .before .before .before .before .before .before .before .before .before .before), l .slots, l .numbers, l .recorded, c .before .before .is-home .ensures)
+    let l = lengths (c .before .before .before .before) in
+    (in-range (c .before .before .before .before .before .before .before .before .before), l .slots, l .numbers, c .before .is-home .ensures)
 
 same-length-4 : tie.Need-same-length-4
 same-length-4 c = refl
@@ -117,8 +126,8 @@ same-length-6 c = refl
 returns-3 : tie.Need-returns-3
 unfolding outgoingOf
 returns-3 c =
-    let bad : isSound (c .before .before .before .before .before .before .before .before .before .before .before .before .before .before .before .before .before .before .before .before .args .sizes) (end (c .before .before .before .before .before .before .before .before .before .before .before .before .before .before .before .before .before .before .before .before)) ≡ false = sym (c .before .is-sound .ensures) ∙ off (c .before .is-sound .result) (c .if3 .taken) in
-    not-sent (c .before .before .before .before .before .before .before .before .before .before .before .before .before .before .before .before .before .before .before .before .args .sizes) (end (c .before .before .before .before .before .before .before .before .before .before .before .before .before .before .before .before .before .before .before .before)) _ _ BadState (rw (in-range (c .before .before .before .before .before .before .before .before .before .before .before .before .before), long (c .before .before .before .before .before .before .before .before), bad))
+    let bad : isSound (c .before .before .before .before .before .before .before .before .before .before .before .before .before .before .before .before .before .before .args .sizes) (end (c .before .before .before .before .before .before .before .before .before .before .before .before .before .before .before .before .before .before)) ≡ false = sym (c .before .is-sound .ensures) ∙ off (c .before .is-sound .result) (c .if3 .taken) in
+    not-sent (c .before .before .before .before .before .before .before .before .before .before .before .before .before .before .before .before .before .before .args .sizes) (end (c .before .before .before .before .before .before .before .before .before .before .before .before .before .before .before .before .before .before)) _ _ BadState (rw (in-range (c .before .before .before .before .before .before .before .before .before .before .before), long (c .before .before .before .before .before .before), bad))
 
 is-too-long-requires : tie.Need-is-too-long-requires
 is-too-long-requires c κs = tt
@@ -136,12 +145,12 @@ returns-4 : tie.Need-returns-4
 unfolding outgoingOf
 returns-4 c =
     let over = sym (c .before .is-too-long .ensures) ∙ c .if4 .taken in
-    not-sent (c .before .before .before .before .before .before .before .before .before .before .before .before .before .before .before .before .before .before .before .before .before .before .args .sizes) (end (c .before .before .before .before .before .before .before .before .before .before .before .before .before .before .before .before .before .before .before .before .before .before)) _ (now (c .before .before .before .before .before .before .before .before .before .before .before .before .before .before .before .before .before .before .before .before .before .before .args .payload)) TooLong (rw (in-range (c .before .before .before .before .before .before .before .before .before .before .before .before .before .before .before), long (c .before .before .before .before .before .before .before .before .before .before), sound (c .before .before), over))
+    not-sent (c .before .before .before .before .before .before .before .before .before .before .before .before .before .before .before .before .before .before .before .before .args .sizes) (end (c .before .before .before .before .before .before .before .before .before .before .before .before .before .before .before .before .before .before .before .before)) _ (now (c .before .before .before .before .before .before .before .before .before .before .before .before .before .before .before .before .before .before .before .before .args .payload)) TooLong (rw (in-range (c .before .before .before .before .before .before .before .before .before .before .before .before .before), long (c .before .before .before .before .before .before .before .before), sound (c .before .before), over))
 
 mul-if5 : tie.Need-mul-if5
 mul-if5 c =
-    let z = c .before .before .before .before .before .before .before .before .before .before .before .before .before .before .before .before .before .before .before .before .before .before .before .args .sizes in
-    let h = sizes (c .before .before .before .before .before .before .before .before .before .before .before .before .before .before .before .before) in
+    let z = c .before .before .before .before .before .before .before .before .before .before .before .before .before .before .before .before .before .before .before .before .before .args .sizes in
+    let h = sizes (c .before .before .before .before .before .before .before .before .before .before .before .before .before .before) in
     record { fits = omega (arith, mul-le-mul {n₁ = z .«max_fragments»} {m₁ = z .«fragment_size»} {n₂ = 16} {m₂ = 1024} (h .m .1) (h .f .1)) }
 
 same-length-10 : tie.Need-same-length-10
@@ -155,16 +164,16 @@ same-length-12 c = refl
 
 returns-5 : tie.Need-returns-5
 unfolding outgoingOf
-returns-5 c = not-sent (c .before .before .before .before .before .before .before .before .before .before .before .before .before .before .before .before .before .before .before .before .before .before .before .before .args .sizes) (end (c .before .before .before .before .before .before .before .before .before .before .before .before .before .before .before .before .before .before .before .before .before .before .before .before)) _ (now (c .before .before .before .before .before .before .before .before .before .before .before .before .before .before .before .before .before .before .before .before .before .before .before .before .args .payload)) ExceededMaxFragments (rw (in-range (c .before .before .before .before .before .before .before .before .before .before .before .before .before .before .before .before .before), long (c .before .before .before .before .before .before .before .before .before .before .before .before), sound (c .before .before .before .before), short (c .before .before), lt-ltb _ _ (c .if5 .taken)))
+returns-5 c = not-sent (c .before .before .before .before .before .before .before .before .before .before .before .before .before .before .before .before .before .before .before .before .before .before .args .sizes) (end (c .before .before .before .before .before .before .before .before .before .before .before .before .before .before .before .before .before .before .before .before .before .before)) _ (now (c .before .before .before .before .before .before .before .before .before .before .before .before .before .before .before .before .before .before .before .before .before .before .args .payload)) ExceededMaxFragments (rw (in-range (c .before .before .before .before .before .before .before .before .before .before .before .before .before .before .before), long (c .before .before .before .before .before .before .before .before .before .before), sound (c .before .before .before .before), short (c .before .before), lt-ltb _ _ (c .if5 .taken)))
 
 slice-reshare-prefix-place : tie.Need-slice-reshare-prefix-place
-slice-reshare-prefix-place c = lengths (c .before .before .before .before .before .before .before .before .before .before .before .before .before) .numbers
+slice-reshare-prefix-place c = lengths (c .before .before .before .before .before .before .before .before .before .before .before) .numbers
 
 slice-aggregate-place : tie.Need-slice-aggregate-place
-slice-aggregate-place c = omega (arith, whole (c .before .before .before .before .before .before .before .before .before .before .before .before .before .before))
+slice-aggregate-place c = omega (arith, whole (c .before .before .before .before .before .before .before .before .before .before .before .before))
 
 place-requires : tie.Need-place-requires
-place-requires c κs = (some (c .before .before .before .before .before .before .before .before .before .before .before .before .before .before), λ e. c .before .before .before .before .before .before .before .before .before .before .is-home .ensures e .home)
+place-requires c κs = (some (c .before .before .before .before .before .before .before .before .before .before .before .before), λ e. c .before .before .before .before .before .before .before .before .before .is-home .ensures e .home)
 
 same-length-13 : tie.Need-same-length-13
 same-length-13 c = refl
@@ -177,18 +186,18 @@ same-length-15 c = refl
 
 returns-6 : tie.Need-returns-6
 unfolding outgoingOf
-returns-6 c = not-sent (c .before .before .before .before .before .before .before .before .before .before .before .before .before .before .before .before .before .before .before .before .before .before .before .before .before .before .before .before .args .sizes) (end (c .before .before .before .before .before .before .before .before .before .before .before .before .before .before .before .before .before .before .before .before .before .before .before .before .before .before .before .before)) _ (now (c .before .before .before .before .before .before .before .before .before .before .before .before .before .before .before .before .before .before .before .before .before .before .before .before .before .before .before .before .args .payload)) Full (rw (in-range (c .before .before .before .before .before .before .before .before .before .before .before .before .before .before .before .before .before .before .before .before .before), long (c .before .before .before .before .before .before .before .before .before .before .before .before .before .before .before .before), sound (c .before .before .before .before .before .before .before .before), short (c .before .before .before .before .before .before), few (c .before .before .before .before), fullness (c .before), eq-eqb _ _ (c .if6 .taken)))
+returns-6 c = not-sent (c .before .before .before .before .before .before .before .before .before .before .before .before .before .before .before .before .before .before .before .before .before .before .before .before .before .before .args .sizes) (end (c .before .before .before .before .before .before .before .before .before .before .before .before .before .before .before .before .before .before .before .before .before .before .before .before .before .before)) _ (now (c .before .before .before .before .before .before .before .before .before .before .before .before .before .before .before .before .before .before .before .before .before .before .before .before .before .before .args .payload)) Full (rw (in-range (c .before .before .before .before .before .before .before .before .before .before .before .before .before .before .before .before .before .before .before), long (c .before .before .before .before .before .before .before .before .before .before .before .before .before .before), sound (c .before .before .before .before .before .before .before .before), short (c .before .before .before .before .before .before), few (c .before .before .before .before), fullness (c .before), eq-eqb _ _ (c .if6 .taken)))
 
 mul-room : tie.Need-mul-room
-mul-room c = let h = sizes (c .before .before .before .before .before .before .before .before .before .before .before .before .before .before .before .before .before .before .before .before .before .before) in omega (arith, h .f)
+mul-room c = let h = sizes (c .before .before .before .before .before .before .before .before .before .before .before .before .before .before .before .before .before .before .before .before) in omega (arith, h .f)
 
 store-requires : tie.Need-store-requires
 store-requires c κs =
-    let z = c .before .before .before .before .before .before .before .before .before .before .before .before .before .before .before .before .before .before .before .before .before .before .before .before .before .before .before .before .before .before .before .before .args .sizes in
-    let l = lengths (c .before .before .before .before .before .before .before .before .before .before .before .before .before .before .before .before .before .before .before .before) in
+    let z = c .before .before .before .before .before .before .before .before .before .before .before .before .before .before .before .before .before .before .before .before .before .before .before .before .before .before .before .before .before .before .args .sizes in
+    let l = lengths (c .before .before .before .before .before .before .before .before .before .before .before .before .before .before .before .before .before .before) in
     let h = within (c .before .before .before .before) in
-    let m = mul-le-mul-right {m = z .«max_fragments»} {n = 16} (z .«fragment_size») (sizes (c .before .before .before .before .before .before .before .before .before .before .before .before .before .before .before .before .before .before .before .before .before .before .before .before .before) .m .1) in
-    let f = sizes (c .before .before .before .before .before .before .before .before .before .before .before .before .before .before .before .before .before .before .before .before .before .before .before .before .before) .f in
+    let m = mul-le-mul-right {m = z .«max_fragments»} {n = 16} (z .«fragment_size») (sizes (c .before .before .before .before .before .before .before .before .before .before .before .before .before .before .before .before .before .before .before .before .before .before .before) .m .1) in
+    let f = sizes (c .before .before .before .before .before .before .before .before .before .before .before .before .before .before .before .before .before .before .before .before .before .before .before) .f in
     let p = c .before .before .before .before .before .before .before .before .if5 .left in
     (omega (arith, h, l .numbers), omega (arith, h, l .recorded), omega (arith, slot-end (c .before .before .before .before .before .place .result) (z .«packets_in_flight») (slotOf z) h, l .room), omega (arith, m, p), omega (arith, m, p, f))
 
@@ -206,8 +215,8 @@ same-length-18 c = c .before .before .before .before .before .before .before .st
 
 returns-7 : tie.Need-returns-7
 returns-7 c =
-    let s = c .before .before .before .before .before .before .before .before .before .before .before .before .before .before .before .before .before .before .before .before .before .before .before .before .before .before .before .before .before .before .before .before .before .before .before .before .before .before .before .before in
-    stored (s .args .sizes) (end s) (s .args .sent) (now (s .args .payload)) (in-range (c .before .before .before .before .before .before .before .before .before .before .before .before .before .before .before .before .before .before .before .before .before .before .before .before .before .before .before .before .before .before .before .before .before)) (long (c .before .before .before .before .before .before .before .before .before .before .before .before .before .before .before .before .before .before .before .before .before .before .before .before .before .before .before .before)) (sound (c .before .before .before .before .before .before .before .before .before .before .before .before .before .before .before .before .before .before .before .before)) (short (c .before .before .before .before .before .before .before .before .before .before .before .before .before .before .before .before .before .before)) (few (c .before .before .before .before .before .before .before .before .before .before .before .before .before .before .before .before)) (fullness (c .before .before .before .before .before .before .before .before .before .before .before .before .before) ∙ ne-eqb _ _ (c .before .before .before .before .before .before .before .before .before .before .before .before .if6 .left))
+    let s = c .before .before .before .before .before .before .before .before .before .before .before .before .before .before .before .before .before .before .before .before .before .before .before .before .before .before .before .before .before .before .before .before .before .before .before .before .before .before in
+    stored (s .args .sizes) (end s) (s .args .sent) (now (s .args .payload)) (in-range (c .before .before .before .before .before .before .before .before .before .before .before .before .before .before .before .before .before .before .before .before .before .before .before .before .before .before .before .before .before .before .before)) (long (c .before .before .before .before .before .before .before .before .before .before .before .before .before .before .before .before .before .before .before .before .before .before .before .before .before .before)) (sound (c .before .before .before .before .before .before .before .before .before .before .before .before .before .before .before .before .before .before .before .before)) (short (c .before .before .before .before .before .before .before .before .before .before .before .before .before .before .before .before .before .before)) (few (c .before .before .before .before .before .before .before .before .before .before .before .before .before .before .before .before)) (fullness (c .before .before .before .before .before .before .before .before .before .before .before .before .before) ∙ ne-eqb _ _ (c .before .before .before .before .before .before .before .before .before .before .before .before .if6 .left))
     (c .sent .ensures) (placed (c .before .before .before .before .before .before .before .before .before .before .before .before .before)) (c .before .before .before .before .before .before .before .store .ensures)
 
 pub process-outgoing-spec : {M : Type 1} → statement M

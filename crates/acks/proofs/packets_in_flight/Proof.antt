@@ -12,6 +12,7 @@ use denote.Ref.{now}
 use Rattle.laws.proofs.Cases.{on, off}
 use Rattle.terms.specs.Sizes.{inRange}
 use Rattle.terms.proofs.Ranges.{in-range-means}
+use Rattle.flight.specs.Entry.{numbersIn}
 use Rattle.flight.specs.Places.{countOf}
 use Rattle.acks.specs.State.{tableOf}
 use Rattle.acks.specs.Gate.{flightLent}
@@ -32,7 +33,7 @@ whole : (c : tie.Else2) → length (tableOf (c .before .before .before .before .
 whole c = length-take-le (c .before .before .before .before .before .before .args .sizes .«packets_in_flight») (now (c .before .before .before .before .before .before .args .number)) (lengths c .0)
 
 -- the table alone is counted
-counted : (c : tie.After-count) → c .count .result ≡ countOf (tableOf (c .before .before .before .before .before .before .before .before .before .before .before .args .sizes) (now (c .before .before .before .before .before .before .before .before .before .before .before .args .number)))
+counted : (c : tie.After-count) → c .count .result ≡ countOf (numbersIn (tableOf (c .before .before .before .before .before .before .before .before .before .before .before .args .sizes) (now (c .before .before .before .before .before .before .before .before .before .before .before .args .number))))
 counted c = c .count .ensures
 
 in-range-requires : tie.Need-in-range-requires
@@ -60,7 +61,7 @@ mul-is-sound : tie.Need-mul-is-sound
 mul-is-sound c = let h = in-range-means _ (in-range (c .before .before .before .before)) in omega (arith, h .f)
 
 is-sound-requires : tie.Need-is-sound-requires
-is-sound-requires c κs = omega (arith, whole (c .before .before), lengths (c .before .before) .1)
+is-sound-requires c κs = omega (arith, whole (c .before .before), in-range-means _ (in-range (c .before .before .before .before)) .n)
 
 returns-3 : tie.Need-returns-3
 unfolding countedOf

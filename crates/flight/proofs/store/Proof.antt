@@ -28,17 +28,14 @@ part-copy-end c = search needs
 copy-requires : tie.Need-copy-requires
 copy-requires c κs = search needs
 
-cast-number : tie.Need-cast-number
-cast-number c = search needs
+word-requires : tie.Need-word-requires
+word-requires c κs = search needs
 
 mul-number : tie.Need-mul-number
 mul-number c = search needs
 
 slice-write-number : tie.Need-slice-write-number
 slice-write-number c = search needs
-
-cast-pack : tie.Need-cast-pack
-cast-pack c = search needs
 
 pack-requires : tie.Need-pack-requires
 pack-requires c κs = search needs
@@ -65,7 +62,7 @@ returns c =
     let n = length (now (a .payload)) in
     let d = now (a .bytes) in
     let e : start + n - start ≡ n = add-sub-cancel-left start n in
-    (refl, (rw (c .pack .ensures), ap (λ (l : List ℕ). take start d ++ (l ++ drop (start + n - start) (drop start d))) (c .before .before .before .before .copy .ensures .1) ∙ rw e (pasted d (now (a .payload)) start n)))
+    (rw (c .before .word .ensures), (rw (c .pack .ensures), ap (λ (l : List ℕ). take start d ++ (l ++ drop (start + n - start) (drop start d))) (c .before .before .before .before .copy .ensures .1) ∙ rw e (pasted d (now (a .payload)) start n)))
 
 pub store-spec : {M : Type 1} → statement M
 store-spec =
@@ -77,10 +74,9 @@ store-spec =
     part-copy-start
     part-copy-end
     copy-requires
-    cast-number
+    word-requires
     mul-number
     slice-write-number
-    cast-pack
     pack-requires
     mul-records
     slice-write-records

@@ -7,6 +7,7 @@ use Rattle.sequence_buffer.specs.Facts.{called}
 use Rattle.received.specs.Field.{fieldOf}
 use Rattle.keys.specs.Keys.{firstPlace, occurs, twice}
 use Rattle.terms.specs.Sizes.{between, inRange}
+use Rattle.flight.specs.Entry.{numberIn}
 use Rattle.flight.specs.Acked.{isAcked}
 use Rattle.flight.specs.Lost.{isLost, leastLost, dropOf}
 use Rattle.splitter.specs.Split.{cut, needed, splitOf}
@@ -22,7 +23,7 @@ use Rattle.marked.proofs.marked_cases.Statement.{statement}
 use Rattle.marked.proofs.marked_cases.Tie as tie
 
 returns : tie.Need-returns
-unfolding cases accepted from having fieldAfter same numbers droppedFirst dropped splitNumber isHeld isPast goesOut allGoOut told joined holds hold greater goes emptied advancedSlots advancedNum insertedSlots insertedNum inserted removedSlots called bitsBelow fieldOf firstPlace occurs twice between inRange isAcked isLost leastLost dropOf cut needed splitOf found judged passed planOf numAfter slotsAfter entryAfter headerAfter bytesAfter outputAfter performed joinedAnswer answerOf countBelow allBelow entrySound sound tooShort gateOf decided handled arrangePlan sequenceOf
+unfolding cases accepted from having fieldAfter same numbers droppedFirst dropped splitNumber isHeld isPast goesOut allGoOut told joined holds hold greater goes emptied advancedSlots advancedNum insertedSlots insertedNum inserted removedSlots called bitsBelow fieldOf firstPlace occurs twice between inRange numberIn isAcked isLost leastLost dropOf cut needed splitOf found judged passed planOf numAfter slotsAfter entryAfter headerAfter bytesAfter outputAfter performed joinedAnswer answerOf countBelow allBelow entrySound sound tooShort gateOf decided handled arrangePlan sequenceOf
 returns c = refl
 
 pub marked-cases-spec : {M : Type 1} → statement M

@@ -16,17 +16,16 @@ whole : (c : tie.Start) → length (take (c .args .sizes .«packets_in_flight»)
 whole c = length-take-le (c .args .sizes .«packets_in_flight») (now (c .args .number)) (c .pre .1)
 
 slice-aggregate-is-home : tie.Need-slice-aggregate-is-home
-slice-aggregate-is-home c = omega (arith, whole (c .before .before .before))
+slice-aggregate-is-home c = omega (arith, whole (c .before .before))
 
 mul-is-home : tie.Need-mul-is-home
-mul-is-home c = omega (arith, sized (c .before .before .before .before) .f)
+mul-is-home c = omega (arith, sized (c .before .before .before) .f)
 
 is-home-requires : tie.Need-is-home-requires
 is-home-requires c κs =
-    let w = whole (c .before .before .before .before) in
-    let s = sized (c .before .before .before .before) in
-    let p = c .before .before .before .before .pre in
-    (omega (arith, w, s .n), omega (arith, w, s .n), omega (arith, w, p .2), omega (arith, s .f))
+    let w = whole (c .before .before .before) in
+    let s = sized (c .before .before .before) in
+    (omega (arith, w, s .n), omega (arith, w, s .n), omega (arith, s .f))
 
 returns : tie.Need-returns
 returns c = search needs

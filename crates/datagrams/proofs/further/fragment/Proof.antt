@@ -13,7 +13,8 @@ use Rattle.keys.proofs.First.{first-le}
 use Rattle.ends.specs.State.{State, lending}
 use Rattle.ends.proofs.Opened.{Opened, opened}
 use Rattle.acks.specs.State.{tableOf}
-use Rattle.flight.specs.Entry.{lengthOf, bytesAt}
+use Rattle.flight.specs.Entry.{numbersIn, lengthOf, bytesAt}
+use Rattle.flight.proofs.Words.{numbers-length}
 use Rattle.splitter.specs.Split.{needed, pieces}
 use Rattle.packet_table.specs.Table.{follows}
 use Rattle.datagrams.specs.Further.{fragmentStandard}
@@ -34,7 +35,7 @@ u16 c = omega (arith, c .good .1 .1 .1 .1 .1 .1 .1 .1 .1 .1 .1 .1 .1 .0)
 within : (c : tie.Else1) → c .before .find .result < c .before .before .before .before .before .before .before .before .before .before .before .before .before .before .before .args .sizes .«packets_in_flight»
 within c =
     let a = c .before .before .before .before .before .before .before .before .before .before .before .before .before .before .before .args in
-    omega (arith, c .if1 .left, c .before .find .ensures, first-le (a .packet .0) (tableOf (a .sizes) (now (a .number))), table (c .before .before .before .before .before .before .before .before .before .before .before .before .before .before .before))
+    omega (arith, c .if1 .left, c .before .find .ensures, first-le (a .packet .0) (numbersIn (tableOf (a .sizes) (now (a .number)))), numbers-length (tableOf (a .sizes) (now (a .number))), table (c .before .before .before .before .before .before .before .before .before .before .before .before .before .before .before))
 
 slot : (c : tie.After-payload-length) → Slot (c .before .before .before .before .before .before .before .before .before .before .before .before .before .before .before .before .before .args .sizes) (now (c .before .before .before .before .before .before .before .before .before .before .before .before .before .before .before .before .before .args .payloads)) (c .before .before .before .find .result) (c .payload-length .result)
 slot c =
@@ -60,13 +61,13 @@ find-requires c κs = c .before .before .before .before .before .before .before 
 returns : tie.Need-returns
 returns c =
     let a = c .before .before .before .before .before .before .before .before .before .before .before .before .before .before .before .args in
-    none-there (a .sizes) (a .end .acks) (now (a .received)) (now (a .number)) (now (a .records)) (now (a .payloads)) (a .packet .0) (a .j) (omega (arith, c .if1 .taken, c .before .find .ensures)) (now (a .output))
+    none-there (a .sizes) (a .end .acks) (now (a .received)) (now (a .number)) (now (a .payloads)) (a .packet .0) (a .j) (omega (arith, c .if1 .taken, c .before .find .ensures)) (now (a .output))
 
 mul-payload-length : tie.Need-mul-payload-length
 mul-payload-length c = omega (arith, within c, gate (c .before .before .before .before .before .before .before .before .before .before .before .before .before .before .before) .in-range .n .1)
 
 shared-slice-read-payload-length : tie.Need-shared-slice-read-payload-length
-shared-slice-read-payload-length c = omega (arith, within (c .before), gate (c .before .before .before .before .before .before .before .before .before .before .before .before .before .before .before .before) .records-room)
+shared-slice-read-payload-length c = omega (arith, within (c .before), gate (c .before .before .before .before .before .before .before .before .before .before .before .before .before .before .before .before) .number-room)
 
 payload-length-requires : tie.Need-payload-length-requires
 payload-length-requires c κs = search needs
@@ -75,8 +76,8 @@ returns-2 : tie.Need-returns-2
 returns-2 c =
     let a = c .before .before .before .before .before .before .before .before .before .before .before .before .before .before .before .before .before .before .args in
     let at = c .before .before .before .before .find .ensures in
-    let count = c .before .payload-length .ensures ∙ ap (λ (k : ℕ). lengthOf (getD (now (a .records)) k 0)) at in
-    none-over (a .sizes) (a .end .acks) (now (a .received)) (now (a .number)) (now (a .records)) (now (a .payloads)) (a .packet .0) (a .j) (omega (arith, within (c .before .before .before), at)) (omega (arith, c .if2 .taken, count)) (now (a .output))
+    let count = c .before .payload-length .ensures ∙ ap (λ (k : ℕ). lengthOf (getD (now (a .number)) k 0)) at in
+    none-over (a .sizes) (a .end .acks) (now (a .received)) (now (a .number)) (now (a .payloads)) (a .packet .0) (a .j) (omega (arith, within (c .before .before .before), at)) (omega (arith, c .if2 .taken, count)) (now (a .output))
 
 fragments-needed-requires : tie.Need-fragments-needed-requires
 fragments-needed-requires c κs = gate (c .before .before .before .before .before .before .before .before .before .before .before .before .before .before .before .before .before .before) .in-range .f
@@ -85,9 +86,9 @@ returns-3 : tie.Need-returns-3
 returns-3 c =
     let a = c .before .before .before .before .before .before .before .before .before .before .before .before .before .before .before .before .before .before .before .before .args in
     let at = c .before .before .before .before .before .before .find .ensures in
-    let count = c .before .before .before .payload-length .ensures ∙ ap (λ (k : ℕ). lengthOf (getD (now (a .records)) k 0)) at in
+    let count = c .before .before .before .payload-length .ensures ∙ ap (λ (k : ℕ). lengthOf (getD (now (a .number)) k 0)) at in
     let total = c .before .fragments-needed .ensures ∙ ap (λ (k : ℕ). needed k (a .sizes .«fragment_size»)) count in
-    none-left (a .sizes) (a .end .acks) (now (a .received)) (now (a .number)) (now (a .records)) (now (a .payloads)) (a .packet .0) (a .j) (omega (arith, within (c .before .before .before .before .before), at)) (omega (arith, c .before .before .if2 .left, count)) (omega (arith, c .if3 .taken, total)) (now (a .output))
+    none-left (a .sizes) (a .end .acks) (now (a .received)) (now (a .number)) (now (a .payloads)) (a .packet .0) (a .j) (omega (arith, within (c .before .before .before .before .before), at)) (omega (arith, c .before .before .if2 .left, count)) (omega (arith, c .if3 .taken, total)) (now (a .output))
 
 mul-start : tie.Need-mul-start
 mul-start c = omega (arith, gate (c .before .before .before .before .before .before .before .before .before .before .before .before .before .before .before .before .before .before .before .before) .in-range .f .1)
@@ -140,7 +141,7 @@ same-length c = search needs
 returns-4 : tie.Need-returns-4
 returns-4 c =
     let a = c .before .before .before .before .before .before .before .before .before .before .before .before .before .before .before .before .before .before .before .before .before .before .before .before .before .before .before .before .before .args in
-    written (a .sizes) (a .end .acks) (now (a .received)) (now (a .number)) (now (a .records)) (now (a .payloads)) (a .packet .0) (a .j)
+    written (a .sizes) (a .end .acks) (now (a .received)) (now (a .number)) (now (a .payloads)) (a .packet .0) (a .j)
     (c .before .before .before .before .before .before .before .before .before .before .before .before .before .before .before .find .result) (c .before .before .before .before .before .before .before .before .before .before .before .before .payload-length .result) (c .before .before .before .before .before .before .before .before .before .before .fragments-needed .result) (c .before .before .before .before .headers .result) (now (c .before .before .before .before .before .before .before .fragment .result)) (now (a .output)) _ _
     (c .before .before .before .before .before .before .before .before .before .before .before .before .before .before .before .find .ensures) (c .before .before .before .before .before .before .before .before .before .before .before .before .payload-length .ensures) (c .before .before .before .before .before .before .before .before .before .before .fragments-needed .ensures) (c .before .before .before .before .headers .ensures) (piece-is (c .before .before .before .before .before .before .before)) (within (c .before .before .before .before .before .before .before .before .before .before .before .before .before .before)) (c .before .before .before .before .before .before .before .before .before .before .before .if2 .left) (c .before .before .before .before .before .before .before .before .before .if3 .left) (c .before .before .write .ensures)
 

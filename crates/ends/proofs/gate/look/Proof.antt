@@ -89,13 +89,13 @@ is-home-requires : tie.Need-is-home-requires
 is-home-requires c κs =
     let s = c .before .before .before .before .before .before .before .before .before .before .before .before .before .before .before .before in
     let t = stored-means (s .args .sizes) (whole s) (out s) (stored c) in
-    (ranged (c .before .before), t .acks .numbers, t .acks .recorded)
+    (ranged (c .before .before), t .acks .numbers)
 
 is-sound-requires : tie.Need-is-sound-requires
 is-sound-requires c κs =
     let s = c .before .before .before .before .before .before .before .before .before .before .before .before .before .before .before .before .before in
     let t = stored-means (s .args .sizes) (whole s) (out s) (stored (c .before)) in
-    (ranged (c .before .before .before), t .acks .numbers, t .acks .recorded, t .parts .slots-c, t .parts .entry-c, t .ordered .index-room, t .ordered .lengths-room, c .is-home .ensures)
+    (ranged (c .before .before .before), t .acks .numbers, t .parts .slots-c, t .parts .entry-c, t .ordered .index-room, t .ordered .lengths-room, c .is-home .ensures)
 
 shut-requires-3 : tie.Need-shut-requires-3
 shut-requires-3 c κs = search needs

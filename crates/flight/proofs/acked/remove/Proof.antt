@@ -9,10 +9,10 @@ use lib.ListN.{length, length-set}
 use denote.Ref.{now}
 use Rattle.laws.proofs.Lists.{partly, partly-more, partly-all}
 use Rattle.sequence_buffer.specs.Buffer.{emptied}
-use Rattle.flight.specs.Acked.{isAcked}
+use Rattle.flight.specs.Acked.{isTold}
 
 abbrev Inv-loop : tie.InvT-loop
-Inv-loop number₀ acked field i₀ number i = (number ≡ partly (emptied (isAcked (acked .0) field)) i number₀) × (i ≤ length number₀) × (length number ≡ length number₀)
+Inv-loop number₀ acked field i₀ number i = (number ≡ partly (emptied (isTold (acked .0) field)) i number₀) × (i ≤ length number₀) × (length number ≡ length number₀)
 
 abbrev μ-loop : tie.MeasureT-loop
 μ-loop number₀ acked field i₀ number i = length number₀ - i
@@ -45,7 +45,7 @@ loop-again : tie.Need-loop-again Inv-loop μ-loop
 loop-again c =
     let a = c .before .before .before .before .before .args in
     let l = c .before .before .before .loop in
-    let gone = isAcked (a .acked .0) (a .field) in (
+    let gone = isTold (a .acked .0) (a .field) in (
       rw (c .without-acked .ensures) (partly-more (emptied gone) (l .i) (now (a .number)) (l .number) (l .inv .0) (omega arith)),
       omega arith,
       length-set (l .number) (l .i) _ ∙ l .inv .2,
@@ -58,7 +58,7 @@ returns : tie.Need-returns Inv-loop μ-loop
 returns c =
     let a = c .before .before .before .args in
     let l = c .before .loop in
-    l .inv .0 ∙ partly-all (emptied (isAcked (a .acked .0) (a .field))) (l .i) (now (a .number)) (omega arith)
+    l .inv .0 ∙ partly-all (emptied (isTold (a .acked .0) (a .field))) (l .i) (now (a .number)) (omega arith)
 
 pub remove-spec : {M : Type 1} → statement M
 remove-spec =

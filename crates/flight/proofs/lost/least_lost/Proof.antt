@@ -3,22 +3,31 @@ use borrow.Author.Needs.{needs}
 use Rattle.flight.proofs.lost.least_lost.Statement.{statement}
 use Rattle.flight.proofs.lost.least_lost.Tie as tie
 use mathlib.Core.Path.{_≡_, sym, ap, _∙_}
-use Prim.Native.Nat.{ℕ, _-_, _≤_}
+use mathlib.Core.List.{List}
+use Prim.Native.Nat.{ℕ, _-_, _≤_, _<_}
 use native.Mathlib.Omega.{arith}
-use lib.ListN.{length, drop}
+use lib.ListN.{length, getD, drop}
 use denote.Ref.{now}
 use borrow.Author.Tests.{lt-ltb, le-ltb}
+use Rattle.flight.specs.Entry.{numberIn, numbersIn}
 use Rattle.flight.specs.Lost.{leastLost}
 use Rattle.flight.proofs.Loops.{least-end, least-turn, least-kept}
+use Rattle.flight.proofs.Words.{numbers-length, numbers-at}
+
+-- the number at a place
+entry-is : (words : List ℕ) (j e : ℕ) → j < length words → e ≡ numberIn (getD words j 0) → getD (numbersIn words) j 0 ≡ e
+entry-is words j e h q = numbers-at words j h ∙ sym q
 
 abbrev Inv-loop : tie.InvT-loop
-Inv-loop number remote least₀ i₀ least i = (least ≡ leastLost (remote .0) (drop i number)) × (i ≤ length number)
+Inv-loop number remote least₀ i₀ least i = (least ≡ leastLost (remote .0) (drop i (numbersIn number))) × (i ≤ length number)
 
 abbrev μ-loop : tie.MeasureT-loop
 μ-loop number remote least₀ i₀ least i = i
 
 loop-holds : tie.Need-loop-holds Inv-loop μ-loop
-loop-holds c = (sym (least-end (now (c .before .args .number)) _), omega arith)
+loop-holds c =
+    let words = now (c .before .args .number) in
+    (sym (ap (λ (k : ℕ). leastLost (c .before .args .remote .0) (drop k (numbersIn words))) (sym (numbers-length words)) ∙ least-end (numbersIn words) _), omega arith)
 
 is-none-lost-before-requires : tie.Need-is-none-lost-before-requires Inv-loop μ-loop
 is-none-lost-before-requires c κs = search needs
@@ -33,40 +42,31 @@ loop-again : tie.Need-loop-again Inv-loop μ-loop
 loop-again c =
     let l = c .before .before .before .loop in
     let a = c .before .before .before .before .before .args in
-    (l .inv .0 ∙ sym (least-kept (a .remote .0) (now (a .number)) (l .i) (omega arith) (c .before .is-none-lost-before .ensures (c .if1 .taken))), omega arith)
+    (l .inv .0 ∙ sym (least-kept (a .remote .0) (numbersIn (now (a .number))) (l .i) (omega (arith, numbers-length (now (a .number)))) (c .before .is-none-lost-before .ensures (c .if1 .taken))), omega arith)
 
 sub-i-2 : tie.Need-sub-i-2 Inv-loop μ-loop
 sub-i-2 c = search needs
 
-mul-if2 : tie.Need-mul-if2 Inv-loop μ-loop
-mul-if2 c = search needs
+mul-number : tie.Need-mul-number Inv-loop μ-loop
+mul-number c = search needs
 
-shared-slice-read-if2 : tie.Need-shared-slice-read-if2 Inv-loop μ-loop
-shared-slice-read-if2 c = search needs
+shared-slice-read-number : tie.Need-shared-slice-read-number Inv-loop μ-loop
+shared-slice-read-number c = search needs
 
-mul-is-lost : tie.Need-mul-is-lost Inv-loop μ-loop
-mul-is-lost c = search needs
-
-shared-slice-read-is-lost : tie.Need-shared-slice-read-is-lost Inv-loop μ-loop
-shared-slice-read-is-lost c = search needs
+number-requires : tie.Need-number-requires Inv-loop μ-loop
+number-requires c κs = search needs
 
 is-lost-requires : tie.Need-is-lost-requires Inv-loop μ-loop
 is-lost-requires c κs = search needs
-
-mul-least : tie.Need-mul-least Inv-loop μ-loop
-mul-least c = search needs
-
-shared-slice-read-least : tie.Need-shared-slice-read-least Inv-loop μ-loop
-shared-slice-read-least c = search needs
 
 loop-less-2 : tie.Need-loop-less-2 Inv-loop μ-loop
 loop-less-2 c = search needs
 
 loop-again-2 : tie.Need-loop-again-2 Inv-loop μ-loop
 loop-again-2 c =
-    let l = c .before .before .before .before .before .before .before .before .before .loop in
-    let a = c .before .before .before .before .before .before .before .before .before .before .before .args in
-    (rw (least-turn (now (a .number)) (l .i) (omega arith) (omega arith) (a .remote .0), ← l .inv .0, lt-ltb _ _ (c .before .before .before .before .if2 .taken), ← c .before .before .is-lost .ensures, c .before .if3 .taken), omega arith)
+    let l = c .before .before .before .before .before .before .before .before .loop in
+    let a = c .before .before .before .before .before .before .before .before .before .before .args in
+    (rw (least-turn (numbersIn (now (a .number))) (l .i) (omega arith) (omega (arith, numbers-length (now (a .number)))) (a .remote .0), ← l .inv .0, entry-is (now (a .number)) (l .i - 1) (c .before .before .before .number .result) (omega arith) (c .before .before .before .number .ensures), lt-ltb _ _ (c .before .before .if2 .taken), ← c .before .is-lost .ensures, c .if3 .taken), omega arith)
 
 loop-less-3 : tie.Need-loop-less-3 Inv-loop μ-loop
 loop-less-3 c = search needs
@@ -75,23 +75,23 @@ loop-again-3 : tie.Need-loop-again-3 Inv-loop μ-loop
 loop-again-3 c =
     let l = c .before .before .before .before .before .before .before .before .loop in
     let a = c .before .before .before .before .before .before .before .before .before .before .args in
-    (rw (least-turn (now (a .number)) (l .i) (omega arith) (omega arith) (a .remote .0), ← l .inv .0, lt-ltb _ _ (c .before .before .before .if2 .taken), ← c .before .is-lost .ensures, c .if3 .left), omega arith)
+    (rw (least-turn (numbersIn (now (a .number))) (l .i) (omega arith) (omega (arith, numbers-length (now (a .number)))) (a .remote .0), ← l .inv .0, entry-is (now (a .number)) (l .i - 1) (c .before .before .before .number .result) (omega arith) (c .before .before .before .number .ensures), lt-ltb _ _ (c .before .before .if2 .taken), ← c .before .is-lost .ensures, c .if3 .left), omega arith)
 
 loop-less-4 : tie.Need-loop-less-4 Inv-loop μ-loop
 loop-less-4 c = search needs
 
 loop-again-4 : tie.Need-loop-again-4 Inv-loop μ-loop
 loop-again-4 c =
-    let l = c .before .before .before .before .before .loop in
-    let a = c .before .before .before .before .before .before .before .args in
-    (rw (least-turn (now (a .number)) (l .i) (omega arith) (omega arith) (a .remote .0), ← l .inv .0, le-ltb _ _ (c .if2 .left)), omega arith)
+    let l = c .before .before .before .before .before .before .loop in
+    let a = c .before .before .before .before .before .before .before .before .args in
+    (rw (least-turn (numbersIn (now (a .number))) (l .i) (omega arith) (omega (arith, numbers-length (now (a .number)))) (a .remote .0), ← l .inv .0, entry-is (now (a .number)) (l .i - 1) (c .before .number .result) (omega arith) (c .before .number .ensures), le-ltb _ _ (c .if2 .left)), omega arith)
 
 returns : tie.Need-returns Inv-loop μ-loop
 returns c =
     let l = c .before .loop in
     let a = c .before .before .before .args in
     let e : l .i ≡ 0 = omega arith in
-    l .inv .0 ∙ ap (λ (k : ℕ). leastLost (a .remote .0) (drop k (now (a .number)))) e
+    l .inv .0 ∙ ap (λ (k : ℕ). leastLost (a .remote .0) (drop k (numbersIn (now (a .number))))) e
 
 pub least-lost-spec : {M : Type 1} → statement M
 least-lost-spec =
@@ -105,13 +105,10 @@ least-lost-spec =
     loop-less
     loop-again
     sub-i-2
-    mul-if2
-    shared-slice-read-if2
-    mul-is-lost
-    shared-slice-read-is-lost
+    mul-number
+    shared-slice-read-number
+    number-requires
     is-lost-requires
-    mul-least
-    shared-slice-read-least
     loop-less-2
     loop-again-2
     loop-less-3

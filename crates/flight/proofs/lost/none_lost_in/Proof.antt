@@ -12,10 +12,12 @@ use lib.ListN.{getD}
 use denote.Ref.{now}
 use borrow.Author.Count.{below-more}
 use borrow.Author.Tests.{leb-true}
+use Rattle.key_parts.specs.Words.{noPacket}
+use Rattle.flight.specs.Entry.{numberIn}
 use Rattle.flight.specs.Lost.{isLost}
 
 abbrev Inv-loop : tie.InvT-loop
-Inv-loop number at remote all₀ k₀ all k = (k ≤ 32) × ((j : ℕ) → j < k → 65536 ≤ all → isLost remote (getD number (at + j) 0) ≡ false)
+Inv-loop number at remote all₀ k₀ all k = (k ≤ 32) × ((j : ℕ) → j < k → noPacket ≤ all → isLost remote (numberIn (getD number (at + j) 0)) ≡ false)
 
 abbrev μ-loop : tie.MeasureT-loop
 μ-loop number at remote all₀ k₀ all k = 32 - k
@@ -47,13 +49,13 @@ loop-again c =
     let a = c .before .before .before .before .before .args in
     let u = c .unless-near .result in (
       omega arith,
-      below-more (λ (j : ℕ). _ → isLost (a .remote) (getD (now (a .number)) (a .at + j) 0) ≡ false) (l .k)
+      below-more (λ (j : ℕ). _ → isLost (a .remote) (numberIn (getD (now (a .number)) (a .at + j) 0)) ≡ false) (l .k)
           (λ j h z. l .inv .1 j h (omega (arith, and-le-l (l .all) u)))
           (λ z. c .unless-near .ensures (omega (arith, and-le-r (l .all) u))),
     )
 
 returns : tie.Need-returns Inv-loop μ-loop
-returns c = λ e k h. c .before .loop .inv .1 k (omega arith) (leb-true 65536 (c .before .loop .all) e)
+returns c = λ e k h. c .before .loop .inv .1 k (omega arith) (leb-true 2147483648 (c .before .loop .all) e)
 
 pub none-lost-in-spec : {M : Type 1} → statement M
 none-lost-in-spec =

@@ -12,13 +12,13 @@ use Rattle.flight.specs.Places.{overLong}
 use Rattle.flight.proofs.Loops.{over-end, over-turn}
 
 abbrev Inv-loop : tie.InvT-loop
-Inv-loop number records room over₀ i₀ over i = (over ≡ overLong room (drop i number) (drop i records)) × (i ≤ length number)
+Inv-loop number room over₀ i₀ over i = (over ≡ overLong room (drop i number)) × (i ≤ length number)
 
 abbrev μ-loop : tie.MeasureT-loop
-μ-loop number records room over₀ i₀ over i = i
+μ-loop number room over₀ i₀ over i = i
 
 loop-holds : tie.Need-loop-holds Inv-loop μ-loop
-loop-holds c = (sym (over-end (now (c .before .before .args .number)) _ _), omega arith)
+loop-holds c = (sym (over-end (now (c .before .args .number)) _), omega arith)
 
 sub-i : tie.Need-sub-i Inv-loop μ-loop
 sub-i c = search needs
@@ -44,8 +44,8 @@ loop-less c = search needs
 loop-again : tie.Need-loop-again Inv-loop μ-loop
 loop-again c =
     let l = c .before .before .before .before .before .before .loop in
-    let a = c .before .before .before .before .before .before .before .before .before .args in
-    (rw (over-turn (now (a .number)) (l .i) (omega arith) (omega arith) (a .room) (now (a .records)) (omega arith), lt-ltb _ _ (c .before .before .before .if1 .taken), ← c .before .payload-length .ensures, lt-ltb _ _ (c .if2 .taken)), omega arith)
+    let a = c .before .before .before .before .before .before .before .before .args in
+    (rw (over-turn (now (a .number)) (l .i) (omega arith) (omega arith) (a .room), lt-ltb _ _ (c .before .before .before .if1 .taken), ← c .before .payload-length .ensures, lt-ltb _ _ (c .if2 .taken)), omega arith)
 
 loop-less-2 : tie.Need-loop-less-2 Inv-loop μ-loop
 loop-less-2 c = search needs
@@ -53,8 +53,8 @@ loop-less-2 c = search needs
 loop-again-2 : tie.Need-loop-again-2 Inv-loop μ-loop
 loop-again-2 c =
     let l = c .before .before .before .before .before .before .loop in
-    let a = c .before .before .before .before .before .before .before .before .before .args in
-    (rw (over-turn (now (a .number)) (l .i) (omega arith) (omega arith) (a .room) (now (a .records)) (omega arith), lt-ltb _ _ (c .before .before .before .if1 .taken), ← c .before .payload-length .ensures, le-ltb _ _ (c .if2 .left)) (l .inv .0), omega arith)
+    let a = c .before .before .before .before .before .before .before .before .args in
+    (rw (over-turn (now (a .number)) (l .i) (omega arith) (omega arith) (a .room), lt-ltb _ _ (c .before .before .before .if1 .taken), ← c .before .payload-length .ensures, le-ltb _ _ (c .if2 .left)) (l .inv .0), omega arith)
 
 loop-less-3 : tie.Need-loop-less-3 Inv-loop μ-loop
 loop-less-3 c = search needs
@@ -62,15 +62,15 @@ loop-less-3 c = search needs
 loop-again-3 : tie.Need-loop-again-3 Inv-loop μ-loop
 loop-again-3 c =
     let l = c .before .before .before .loop in
-    let a = c .before .before .before .before .before .before .args in
-    (rw (over-turn (now (a .number)) (l .i) (omega arith) (omega arith) (a .room) (now (a .records)) (omega arith), le-ltb _ _ (c .if1 .left)) (l .inv .0), omega arith)
+    let a = c .before .before .before .before .before .args in
+    (rw (over-turn (now (a .number)) (l .i) (omega arith) (omega arith) (a .room), le-ltb _ _ (c .if1 .left)) (l .inv .0), omega arith)
 
 returns : tie.Need-returns Inv-loop μ-loop
 returns c =
     let l = c .before .loop in
-    let a = c .before .before .before .before .args in
+    let a = c .before .before .before .args in
     let e : l .i ≡ 0 = omega arith in
-    l .inv .0 ∙ ap (λ (k : ℕ). overLong (a .room) (drop k (now (a .number))) (drop k (now (a .records)))) e
+    l .inv .0 ∙ ap (λ (k : ℕ). overLong (a .room) (drop k (now (a .number)))) e
 
 pub is-over-long-spec : {M : Type 1} → statement M
 is-over-long-spec =

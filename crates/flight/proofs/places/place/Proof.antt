@@ -2,30 +2,20 @@
 use borrow.Author.Needs.{needs}
 use Rattle.flight.proofs.places.place.Statement.{statement}
 use Rattle.flight.proofs.places.place.Tie as tie
-use Prim.Native.Nat.{ℕ, _%_, _≤_, _<_}
+use mathlib.Core.Path.{_∙_}
 use native.Mathlib.Nat.{mod-lt}
 use native.Mathlib.Omega.{arith}
-use lib.ListN.{length, getD}
+use lib.ListN.{length}
 use denote.Ref.{now}
-use borrow.Author.Tests.{lt-ltb, le-ltb}
-use Rattle.flight.specs.Places.{placeOf}
-
--- what stands in the number's own place
-abbrev own : tie.Start → ℕ
-own c = getD (now (c .args .number)) (c .args .packet .0 % length (now (c .args .number))) 0
-
-occupied : (c : tie.Then2) → own (c .before .before .before .before .before .before) < 65536
-occupied c = omega arith
-
-free : (c : tie.Else2) → 65536 ≤ own (c .before .before .before .before .before .before)
-free c = omega arith
+use Rattle.flight.proofs.Room.{at-first, at-free, at-own}
 
 find-requires : tie.Need-find-requires
 find-requires c κs = search needs
 
 returns : tie.Need-returns
-unfolding placeOf
-returns c = rw (← c .before .find .ensures, lt-ltb _ _ (c .if1 .taken))
+returns c =
+    let s = c .before .before .before in
+    c .before .find .ensures ∙ at-first (s .args .packet .0) (now (s .args .number)) (s .pre) (omega (arith, c .before .find .ensures, c .if1 .taken))
 
 cast-own : tie.Need-cast-own
 cast-own c = search needs
@@ -43,12 +33,15 @@ first-free-requires : tie.Need-first-free-requires
 first-free-requires c κs = search needs
 
 returns-2 : tie.Need-returns-2
-unfolding placeOf
-returns-2 c = rw (← c .before .before .before .before .before .find .ensures, le-ltb _ _ (c .before .before .before .before .if1 .left), lt-ltb _ _ (occupied (c .before)), c .first-free .ensures)
+returns-2 c =
+    let s = c .before .before .before .before .before .before .before in
+    c .first-free .ensures
+    ∙ at-free (s .args .packet .0) (now (s .args .number)) (s .pre) (omega (arith, c .before .before .before .before .before .find .ensures, c .before .before .before .before .if1 .left)) (c .before .if2 .taken)
 
 returns-3 : tie.Need-returns-3
-unfolding placeOf
-returns-3 c = rw (← c .before .before .before .before .find .ensures, le-ltb _ _ (c .before .before .before .if1 .left), le-ltb _ _ (free c))
+returns-3 c =
+    let s = c .before .before .before .before .before .before in
+    at-own (s .args .packet .0) (now (s .args .number)) (s .pre) (omega (arith, c .before .before .before .before .find .ensures, c .before .before .before .if1 .left)) (c .if2 .left)
 
 pub place-spec : {M : Type 1} → statement M
 place-spec =

@@ -3,11 +3,10 @@ use borrow.Author.Needs.{needs}
 use Rattle.flight_home.proofs.direct.find_at_home.Statement.{statement}
 use Rattle.flight_home.proofs.direct.find_at_home.Tie as tie
 use Prim.Native.Nat.{_%_, _<_}
-use mathlib.Core.Path.{sym}
 use native.Mathlib.Nat.{mod-lt}
 use lib.ListN.{length}
 use denote.Ref.{now}
-use Rattle.keys.proofs.Homes.{home-here, home-away}
+use Rattle.flight_home.proofs.Homes.{first-here, first-away}
 
 own : (c : tie.Start) → c .args .packet .0 % length (now (c .args .number)) < length (now (c .args .number))
 own c = mod-lt (c .args .packet .0) {m = length (now (c .args .number))} (c .pre .0)
@@ -30,12 +29,12 @@ cast-if1 c = search needs
 returns : tie.Need-returns
 returns c =
     let s = c .before .before .before .before in
-    sym (home-here (now (s .args .number)) (s .pre .1) (s .args .packet .0) (search needs) (s .pre .0) (c .if1 .taken))
+    first-here (s .args .packet .0) (now (s .args .number)) (search needs) (s .pre .0) (s .pre .1) (c .if1 .taken)
 
 returns-2 : tie.Need-returns-2
 returns-2 c =
     let s = c .before .before .before .before in
-    sym (home-away (now (s .args .number)) (s .pre .1) (s .args .packet .0) (search needs) (c .if1 .left))
+    first-away (s .args .packet .0) (now (s .args .number)) (search needs) (s .pre .0) (s .pre .1) (c .if1 .left)
 
 pub find-at-home-spec : {M : Type 1} → statement M
 find-at-home-spec =

@@ -13,11 +13,11 @@ cast-own c = search needs
 rem-own : tie.Need-rem-own
 rem-own c = search needs
 
-mul-entry : tie.Need-mul-entry
-mul-entry c = let h = mod-lt (c .before .before .args .packet .0) {m = length (now (c .before .before .args .number))} (c .before .before .pre .0) in search needs
+mul-word : tie.Need-mul-word
+mul-word c = let h = mod-lt (c .before .before .args .packet .0) {m = length (now (c .before .before .args .number))} (c .before .before .pre .0) in search needs
 
-shared-slice-read-entry : tie.Need-shared-slice-read-entry
-shared-slice-read-entry c = mod-lt (c .before .before .before .args .packet .0) {m = length (now (c .before .before .before .args .number))} (c .before .before .before .pre .0)
+shared-slice-read-word : tie.Need-shared-slice-read-word
+shared-slice-read-word c = mod-lt (c .before .before .before .args .packet .0) {m = length (now (c .before .before .before .args .number))} (c .before .before .before .pre .0)
 
 cast-if1 : tie.Need-cast-if1
 cast-if1 c = search needs
@@ -40,8 +40,8 @@ place-at-home-spec =
     (tie.spec
     cast-own
     rem-own
-    mul-entry
-    shared-slice-read-entry
+    mul-word
+    shared-slice-read-word
     cast-if1
     returns
     returns-2

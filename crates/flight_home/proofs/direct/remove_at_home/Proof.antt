@@ -7,16 +7,16 @@ use mathlib.Core.List.{List, map}
 use mathlib.Core.Logic.{⊎-elim}
 use Prim.Native.Nat.{ℕ, _-_, _≤_}
 use native.Mathlib.Omega.{arith}
-use lib.Dec.{eqb}
 use lib.ListN.{length, length-map}
 use denote.Ref.{now}
 use Rattle.keys.specs.Home.{Home}
 use Rattle.serial.specs.Order.{back}
 use Rattle.sequence_buffer.specs.Buffer.{emptied}
-use Rattle.flight_home.proofs.Taken.{upTo, home-kept, first-turn, turn, no-turn, last-turn}
+use Rattle.flight.specs.Entry.{numbersIn}
+use Rattle.flight_home.proofs.Taken.{taking, upTo, toldTo, home-kept, first-turn, turn, no-turn, last-turn}
 
 abbrev Inv-loop : tie.InvT-loop
-Inv-loop number₀ acked field i₀ number i = (i ≤ 33) × (number ≡ map (emptied (upTo (acked .0) field i)) number₀)
+Inv-loop number₀ acked field i₀ number i = (i ≤ 33) × (number ≡ map (emptied (toldTo (acked .0) field i)) number₀)
 
 abbrev μ-loop : tie.MeasureT-loop
 μ-loop number₀ acked field i₀ number i = 33 - i
@@ -34,7 +34,7 @@ remove-own-requires : tie.Need-remove-own-requires Inv-loop μ-loop
 remove-own-requires c κs =
     let e = c .before .before .before .before .before .loop .inv .1 in
     let a = c .before .before .before .before .before .before .before .args in
-    (omega (arith, ap length e ∙ length-map (now (a .number)) _, c .before .before .before .before .before .before .before .pre .0), subst (λ (t : List ℕ). Home t) (sym e) (home-kept _ (now (a .number)) (c .before .before .before .before .before .before .before .pre .1)))
+    (omega (arith, ap length e ∙ length-map (now (a .number)) _, c .before .before .before .before .before .before .before .pre .0), subst (λ (t : List ℕ). Home (numbersIn t)) (sym e) (home-kept (upTo (a .acked .0) (a .field) (c .before .before .before .before .before .loop .i)) (now (a .number)) (c .before .before .before .before .before .before .before .pre .1)))
 
 add-i : tie.Need-add-i Inv-loop μ-loop
 add-i c = search needs
@@ -51,8 +51,8 @@ loop-again c =
     (λ w. (
       omega arith,
       w .6 ∙ w .3 .ensures
-          ∙ ap (λ (x : ℕ). map (emptied (eqb x)) (l .number)) (w .2 .ensures)
-          ∙ ap (λ (t : List ℕ). map (emptied (eqb (back (a .acked .0) (l .i)))) t) (l .inv .1)
+          ∙ ap (λ (x : ℕ). map (emptied (taking x)) (l .number)) (w .2 .ensures)
+          ∙ ap (λ (t : List ℕ). map (emptied (taking (back (a .acked .0) (l .i)))) t) (l .inv .1)
           ∙ turn (a .acked .0) (a .field) (search needs) (l .i) (omega arith) (sym said ∙ w .0 .taken) (now (a .number)),
     ))
     (λ w. (
@@ -69,7 +69,7 @@ returns c =
     let l = c .before .loop in
     let a = c .before .before .before .args in
     let e : l .i ≡ 33 = omega arith in
-    l .inv .1 ∙ ap (λ (k : ℕ). map (emptied (upTo (a .acked .0) (a .field) k)) (now (a .number))) e ∙ last-turn (a .acked .0) (a .field) (search needs) (now (a .number))
+    l .inv .1 ∙ ap (λ (k : ℕ). map (emptied (toldTo (a .acked .0) (a .field) k)) (now (a .number))) e ∙ last-turn (a .acked .0) (a .field) (search needs) (now (a .number))
 
 pub remove-at-home-spec : {M : Type 1} → statement M
 remove-at-home-spec =

@@ -6,6 +6,7 @@ use Prim.Native.Nat.{ℕ, _+_, _-_, _≤_}
 use native.Mathlib.Omega.{arith}
 use lib.ListN.{getD}
 use denote.Ref.{now}
+use Rattle.key_parts.specs.Words.{noPacket}
 
 is-part-free-requires : tie.Need-is-part-free-requires
 is-part-free-requires c κs = search needs
@@ -21,7 +22,7 @@ returns c =
       free .0,
       λ j h k.
           let e : a .at + (j - a .at) ≡ j = omega arith in
-          subst (λ (x : ℕ). 65536 ≤ getD (now (a .number)) x 0) e (free .1 (j - a .at) (omega arith)),
+          subst (λ (x : ℕ). noPacket ≤ getD (now (a .number)) x 0) e (free .1 (j - a .at) (omega arith)),
     )
 
 returns-2 : tie.Need-returns-2

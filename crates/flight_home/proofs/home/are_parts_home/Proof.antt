@@ -13,10 +13,10 @@ use Rattle.laws.proofs.Cases.{both, on, lt-or-le}
 use Rattle.flight_home.specs.AtHome.{PlaceHome}
 
 abbrev Inv-loop : tie.InvT-loop
-Inv-loop number records room here lap last newest end at₀ at = (at ≤ length number) × (at % 64 ≡ 0) × ((j : ℕ) → j < at → PlaceHome room lap last number records j)
+Inv-loop number room here lap last newest end at₀ at = (at ≤ length number) × (at % 64 ≡ 0) × ((j : ℕ) → j < at → PlaceHome room lap last number j)
 
 abbrev μ-loop : tie.MeasureT-loop
-μ-loop number records room here lap last newest end at₀ at = length number - at
+μ-loop number room here lap last newest end at₀ at = length number - at
 
 newest-part-requires : tie.Need-newest-part-requires Inv-loop μ-loop
 newest-part-requires c κs = search needs
@@ -42,7 +42,7 @@ loop-less c = search needs
 loop-again : tie.Need-loop-again Inv-loop μ-loop
 loop-again c =
     let l = c .before .before .before .loop in
-    let a = c .before .before .before .before .before .before .before .args in
+    let a = c .before .before .before .before .before .before .args in
     let part = c .before .is-part-home .ensures (on _ (c .if1 .left)) in (
       omega arith,
       omega arith,
@@ -50,7 +50,7 @@ loop-again c =
           ⊎-elim (λ w. l .inv .2 j w)
           (λ w.
           let e : l .at + (j - l .at) ≡ j = omega arith in
-          subst (λ (x : ℕ). PlaceHome (a .room) (a .lap) (a .last) (now (a .number)) (now (a .records)) x) e (part (j - l .at) (omega arith)))
+          subst (λ (x : ℕ). PlaceHome (a .room) (a .lap) (a .last) (now (a .number)) x) e (part (j - l .at) (omega arith)))
           (lt-or-le j (l .at)),
     )
 
@@ -71,7 +71,7 @@ returns-3 c =
     ⊎-elim (λ w. l .inv .2 j w)
     (λ w.
     ⊎-elim
-    (λ v. record { step = λ key. absurd (omega (arith, free .2 j w v)); fits = λ key. absurd (omega (arith, free .2 j w v)) })
+    (λ v key. absurd (omega (arith, free .2 j w v)))
     (λ v. c .is-rest-home .ensures e j v h)
     (lt-or-le j (c .before .after-free .result)))
     (lt-or-le j (l .at))

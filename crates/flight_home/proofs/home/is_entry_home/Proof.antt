@@ -7,9 +7,6 @@ use native.Mathlib.Omega.{arith}
 use borrow.Author.Tests.{eqb-true}
 use Rattle.laws.proofs.Cases.{both}
 
-payload-length-requires : tie.Need-payload-length-requires
-payload-length-requires c κs = search needs
-
 returns : tie.Need-returns
 returns c = λ e. both e refl
 
@@ -17,14 +14,13 @@ add-if2 : tie.Need-add-if2
 add-if2 c = search needs
 
 returns-2 : tie.Need-returns-2
-returns-2 c = λ e. (inl (c .if2 .taken), omega (arith, c .before .before .payload-length .ensures))
+returns-2 c = λ e key. (inl (c .if2 .taken), omega arith)
 
 add-result : tie.Need-add-result
 add-result c = search needs
 
 returns-3 : tie.Need-returns-3
-returns-3 c = λ e. (inr (eqb-true _ _ e), omega (arith, c .before .before .payload-length .ensures))
+returns-3 c = λ e key. (inr (eqb-true _ _ e), omega arith)
 
 pub is-entry-home-spec : {M : Type 1} → statement M
-is-entry-home-spec =
-    tie.close (tie.spec payload-length-requires returns add-if2 returns-2 add-result returns-3)
+is-entry-home-spec = tie.close (tie.spec returns add-if2 returns-2 add-result returns-3)

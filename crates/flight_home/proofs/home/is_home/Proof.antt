@@ -18,7 +18,7 @@ rem-here c = search needs
 
 sub-lap : tie.Need-sub-lap
 sub-lap c =
-    let a = c .before .before .before .before .args in
+    let a = c .before .before .before .args in
     omega (arith, mod-le (a .next .0) (length (now (a .number))))
 
 cast-distance : tie.Need-cast-distance
@@ -27,35 +27,40 @@ cast-distance c = search needs
 distance-requires : tie.Need-distance-requires
 distance-requires c κs = search needs
 
-is-multiple-requires : tie.Need-is-multiple-requires
-is-multiple-requires c κs = search needs
+is-lap-requires : tie.Need-is-lap-requires
+is-lap-requires c κs =
+    let s = c .before .before .before .before in
+    (s .pre .0, s .pre .1, lap-multiple _ _, c .distance .ensures)
 
 returns : tie.Need-returns
 returns c = λ e. both e refl
 
 cast-are-parts-home : tie.Need-cast-are-parts-home
-cast-are-parts-home c =
-    let a = c .before .before .before .before .before .before .before .args in
-    omega (arith, mod-le (a .next .0) (length (now (a .number))))
+cast-are-parts-home c = search needs
 
 cast-are-parts-home-2 : tie.Need-cast-are-parts-home-2
-cast-are-parts-home-2 c = search needs
+cast-are-parts-home-2 c =
+    let a = c .before .before .before .before .before .before .args in
+    omega (arith, mod-le (a .next .0) (length (now (a .number))))
 
 cast-are-parts-home-3 : tie.Need-cast-are-parts-home-3
 cast-are-parts-home-3 c = search needs
 
+cast-are-parts-home-4 : tie.Need-cast-are-parts-home-4
+cast-are-parts-home-4 c = search needs
+
 are-parts-home-requires : tie.Need-are-parts-home-requires
 are-parts-home-requires c κs =
-    let s = c .before .before .before .before .before .before .before in
+    let s = c .before .before .before .before .before .before in
     let n = length (now (s .args .number)) in
     omega (arith, s .pre, mod-lt (s .args .next .0) {m = n} (s .pre .0), mod-le (s .args .next .0) n)
 
 returns-2 : tie.Need-returns-2
 returns-2 c =
     λ e.
-    all-home _ _ _ _ _
+    all-home _ _ _ _
     (lap-multiple _ _)
-    (c .before .before .is-multiple .ensures (on _ (c .before .if1 .left)))
+    (c .before .before .is-lap .ensures (on _ (c .before .if1 .left)))
     (c .are-parts-home .ensures e)
 
 pub is-home-spec : {M : Type 1} → statement M
@@ -67,10 +72,11 @@ is-home-spec =
     sub-lap
     cast-distance
     distance-requires
-    is-multiple-requires
+    is-lap-requires
     returns
     cast-are-parts-home
     cast-are-parts-home-2
     cast-are-parts-home-3
+    cast-are-parts-home-4
     are-parts-home-requires
     returns-2)

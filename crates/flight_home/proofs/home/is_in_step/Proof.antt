@@ -9,7 +9,7 @@ use native.Mathlib.Omega.{arith}
 use lib.ListN.{getD}
 use denote.Ref.{now}
 use Rattle.laws.proofs.Cases.{both, on, lt-or-le}
-use Rattle.keys.specs.Home.{InStep}
+use Rattle.key_parts.specs.Words.{Placed}
 
 nearer-requires : tie.Need-nearer-requires
 nearer-requires c κs = search needs
@@ -27,7 +27,8 @@ returns : tie.Need-returns
 returns c =
     λ e k h key.
     let f = c .before .follows .ensures (c .if1 .taken) k h key in
-    ⊎-elim (λ n. inl (omega (arith, f))) (λ n. inr (omega (arith, f))) (c .before .before .nearer .ensures)
+    let number = ⊎-elim (λ n. n) (λ n. n) (f .0) in
+    (⊎-elim (λ n. inl (omega (arith, number))) (λ n. inr (omega (arith, number))) (c .before .before .nearer .ensures), f .1)
 
 in-step-requires : tie.Need-in-step-requires
 in-step-requires c κs = search needs
@@ -48,7 +49,7 @@ returns-3 c =
     ⊎-elim (λ w. c .before .before .in-step .ensures (on _ (c .before .if2 .left)) k w)
     (λ w.
     let q : a .at + 32 + (k - 32) ≡ a .at + k = omega arith in
-    subst (λ (x : ℕ). InStep (a .lap) (a .last) x (getD (now (a .number)) x 0)) q (c .in-step2 .ensures e (k - 32) (omega arith)))
+    subst (λ (x : ℕ). Placed (a .room) (a .lap) (a .last) x (getD (now (a .number)) x 0)) q (c .in-step2 .ensures e (k - 32) (omega arith)))
     (lt-or-le k 32)
 
 pub is-in-step-spec : {M : Type 1} → statement M

@@ -13,10 +13,10 @@ use Rattle.laws.proofs.Cases.{both, on}
 use Rattle.flight_home.specs.AtHome.{PlaceHome}
 
 abbrev Inv-loop : tie.InvT-loop
-Inv-loop number records room from lap last i₀ i = (from ≤ i) × (i ≤ length number) × ((j : ℕ) → from ≤ j → j < i → PlaceHome room lap last number records j)
+Inv-loop number room from lap last i₀ i = (from ≤ i) × (i ≤ length number) × ((j : ℕ) → from ≤ j → j < i → PlaceHome room lap last number j)
 
 abbrev μ-loop : tie.MeasureT-loop
-μ-loop number records room from lap last i₀ i = length number - i
+μ-loop number room from lap last i₀ i = length number - i
 
 loop-holds : tie.Need-loop-holds Inv-loop μ-loop
 loop-holds c = (omega arith, omega arith, λ j h k. absurd (omega arith))
@@ -32,12 +32,6 @@ mul-is-entry-home c = search needs
 
 shared-slice-read-is-entry-home : tie.Need-shared-slice-read-is-entry-home Inv-loop μ-loop
 shared-slice-read-is-entry-home c = search needs
-
-mul-is-entry-home-2 : tie.Need-mul-is-entry-home-2 Inv-loop μ-loop
-mul-is-entry-home-2 c = search needs
-
-shared-slice-read-is-entry-home-2 : tie.Need-shared-slice-read-is-entry-home-2 Inv-loop μ-loop
-shared-slice-read-is-entry-home-2 c = search needs
 
 cast-is-entry-home : tie.Need-cast-is-entry-home Inv-loop μ-loop
 cast-is-entry-home c = search needs
@@ -57,12 +51,12 @@ loop-less c = search needs
 loop-again : tie.Need-loop-again Inv-loop μ-loop
 loop-again c =
     let l = c .before .before .before .loop in
-    let a = c .before .before .before .before .before .before .args in
-    let home : ℕ → Type 0 = λ (j : ℕ). a .from ≤ j → PlaceHome (a .room) (a .lap) (a .last) (now (a .number)) (now (a .records)) j in
+    let a = c .before .before .before .before .before .args in
+    let home : ℕ → Type 0 = λ (j : ℕ). a .from ≤ j → PlaceHome (a .room) (a .lap) (a .last) (now (a .number)) j in
     let all : home (l .i) =
     ⊎-elim
-    (λ w h. let e = w .3 .ensures (on _ (w .4 .left)) in record { step = λ key. e .0; fits = λ key. e .1 })
-    (λ w h. record { step = λ key. absurd (omega arith); fits = λ key. absurd (omega arith) })
+    (λ w h. w .2 .ensures (on _ (w .3 .left)))
+    (λ w h key. absurd (omega arith))
     (c .if1 .came) in
     (omega arith, omega arith, λ j h k. below-more home (l .i) (λ m q r. l .inv .2 m r q) all j k h)
 
@@ -80,8 +74,6 @@ is-rest-home-spec =
     shared-slice-read-if1
     mul-is-entry-home
     shared-slice-read-is-entry-home
-    mul-is-entry-home-2
-    shared-slice-read-is-entry-home-2
     cast-is-entry-home
     is-entry-home-requires
     returns

@@ -9,7 +9,7 @@ is-seen-home-requires : tie.Need-is-seen-home-requires
 is-seen-home-requires c κs = search needs
 
 returns : tie.Need-returns
-returns c = sym (home-sound _ _ _ (c .before .is-seen-home .ensures (c .if1 .taken)))
+returns c = sym (home-sound _ _ (c .before .is-seen-home .ensures (c .if1 .taken)))
 
 is-sound-requires : tie.Need-is-sound-requires
 is-sound-requires c κs = search needs

@@ -10,13 +10,13 @@ use lib.ListN.{getD}
 use denote.Ref.{now}
 use borrow.Author.Count.{below-more}
 use borrow.Author.Tests.{leb-true}
-use Rattle.keys.specs.Home.{InStep}
+use Rattle.key_parts.specs.Words.{noPacket, Placed}
 
 abbrev Inv-loop : tie.InvT-loop
-Inv-loop keys at lap last all₀ k₀ all k = (k ≤ 32) × ((j : ℕ) → j < k → 65536 ≤ all → InStep lap last (at + j) (getD keys (at + j) 0))
+Inv-loop words at lap last room all₀ k₀ all k = (k ≤ 32) × ((j : ℕ) → j < k → noPacket ≤ all → Placed room lap last (at + j) (getD words (at + j) 0))
 
 abbrev μ-loop : tie.MeasureT-loop
-μ-loop keys at lap last all₀ k₀ all k = 32 - k
+μ-loop words at lap last room all₀ k₀ all k = 32 - k
 
 loop-holds : tie.Need-loop-holds Inv-loop μ-loop
 loop-holds c = (omega arith, λ j h. absurd (not-suc-le-zero h))
@@ -57,13 +57,13 @@ loop-again c =
     let a = c .before .before .before .before .before .args in
     let u = c .unless .result in (
       omega arith,
-      below-more (λ (j : ℕ). _ → InStep (a .lap) (a .last) (a .at + j) (getD (now (a .keys)) (a .at + j) 0)) (l .k)
+      below-more (λ (j : ℕ). _ → Placed (a .room) (a .lap) (a .last) (a .at + j) (getD (now (a .words)) (a .at + j) 0)) (l .k)
           (λ j h z. l .inv .1 j h (omega (arith, and-le-l (l .all) u)))
           (λ z. c .unless .ensures (omega (arith, and-le-r (l .all) u))),
     )
 
 returns : tie.Need-returns Inv-loop μ-loop
-returns c = λ e k h. c .before .loop .inv .1 k (omega arith) (leb-true 65536 (c .before .loop .all) e)
+returns c = λ e k h. c .before .loop .inv .1 k (omega arith) (leb-true 2147483648 (c .before .loop .all) e)
 
 pub in-step-spec : {M : Type 1} → statement M
 in-step-spec =

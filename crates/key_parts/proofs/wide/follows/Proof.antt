@@ -2,24 +2,25 @@
 use borrow.Author.Needs.{needs}
 use Rattle.key_parts.proofs.wide.follows.Statement.{statement}
 use Rattle.key_parts.proofs.wide.follows.Tie as tie
-use mathlib.Core.Path.{_≡_}
+use mathlib.Core.Path.{_≡_, subst}
 use native.Mathlib.Nat.{not-suc-le-zero}
 use native.Mathlib.Omega.{arith}
-use Prim.Native.Nat.{ℕ, _+_, _-_, _≤_, _<_}
+use Prim.Native.Nat.{ℕ, _+_, _-_, _*_, _/_, _≤_, _<_}
 use lib.Bits.{and-le-l, and-le-r}
 use lib.ListN.{getD}
 use denote.Ref.{now}
 use borrow.Author.Count.{below-more}
 use borrow.Author.Tests.{leb-true}
+use Rattle.key_parts.specs.Words.{noPacket, Word}
 
 abbrev Inv-loop : tie.InvT-loop
-Inv-loop keys at first all₀ k₀ all k = (k ≤ 64) × ((j : ℕ) → j < k → 65536 ≤ all → getD keys (at + j) 0 < 65536 → getD keys (at + j) 0 ≡ first + j)
+Inv-loop words at first room all₀ place₀ k₀ all place k = (k ≤ 64) × (place ≡ k * 32768) × ((j : ℕ) → j < k → noPacket ≤ all → Word room (first + j) (first + j) (getD words (at + j) 0))
 
 abbrev μ-loop : tie.MeasureT-loop
-μ-loop keys at first all₀ k₀ all k = 64 - k
+μ-loop words at first room all₀ place₀ k₀ all place k = 64 - k
 
 loop-holds : tie.Need-loop-holds Inv-loop μ-loop
-loop-holds c = (omega arith, λ j h. absurd (not-suc-le-zero h))
+loop-holds c = (omega arith, omega arith, λ j h. absurd (not-suc-le-zero h))
 
 add-without : tie.Need-add-without Inv-loop μ-loop
 add-without c = search needs
@@ -30,11 +31,11 @@ mul-without c = search needs
 shared-slice-read-without : tie.Need-shared-slice-read-without Inv-loop μ-loop
 shared-slice-read-without c = search needs
 
-cast-without : tie.Need-cast-without Inv-loop μ-loop
-cast-without c = search needs
-
 without-requires : tie.Need-without-requires Inv-loop μ-loop
 without-requires c κs = search needs
+
+add-place : tie.Need-add-place Inv-loop μ-loop
+add-place c = search needs
 
 add-k : tie.Need-add-k Inv-loop μ-loop
 add-k c = search needs
@@ -46,15 +47,17 @@ loop-again : tie.Need-loop-again Inv-loop μ-loop
 loop-again c =
     let l = c .before .before .before .loop in
     let a = c .before .before .before .before .before .args in
-    let u = c .without .result in (
+    let u = c .without .result in
+    let here : l .place / 32768 ≡ l .k = omega (arith, l .inv .1) in (
       omega arith,
-      below-more (λ (j : ℕ). _ → getD (now (a .keys)) (a .at + j) 0 < 65536 → getD (now (a .keys)) (a .at + j) 0 ≡ a .first + j) (l .k)
-          (λ j h z. l .inv .1 j h (omega (arith, and-le-l (l .all) u)))
-          (λ z. c .without .ensures (omega (arith, and-le-r (l .all) u))),
+      omega (arith, l .inv .1),
+      below-more (λ (j : ℕ). _ → Word (a .room) (a .first + j) (a .first + j) (getD (now (a .words)) (a .at + j) 0)) (l .k)
+          (λ j h z. l .inv .2 j h (omega (arith, and-le-l (l .all) u)))
+          (λ z. subst (λ (x : ℕ). Word (a .room) (a .first + x) (a .first + x) (getD (now (a .words)) (a .at + l .k) 0)) here (c .without .ensures (omega (arith, and-le-r (l .all) u)))),
     )
 
 returns : tie.Need-returns Inv-loop μ-loop
-returns c = λ e k h. c .before .loop .inv .1 k (omega arith) (leb-true 65536 (c .before .loop .all) e)
+returns c = λ e k h. c .before .loop .inv .2 k (omega arith) (leb-true 2147483648 (c .before .loop .all) e)
 
 pub follows-spec : {M : Type 1} → statement M
 follows-spec =
@@ -66,8 +69,8 @@ follows-spec =
     add-without
     mul-without
     shared-slice-read-without
-    cast-without
     without-requires
+    add-place
     add-k
     loop-less
     loop-again
