@@ -1,9 +1,9 @@
 // 1, 2 and 13, which every call of a user tries first.
 ghost use mathlib.Core.Path.{_≡_};
 ghost use mathlib.Core.Bool.{true, _||_};
-ghost use Prim.Native.Nat.{_%_, _≤_, _<_};
+ghost use Prim.Native.Nat.{ℕ, _+_, _%_, _≤_, _<_};
 ghost use lib.Dec.{eqb, leb};
-ghost use lib.ListN.{length};
+ghost use lib.ListN.{length, getD};
 ghost use Rattle.reassembly_plan.specs.Words.{entryOf};
 ghost use Rattle.laws.specs.Bits.{bit};
 ghost use Rattle.reassembly_plan.specs.Gate.{countBelow, entrySound, sound as soundness, tooShort, gateOf};
@@ -70,7 +70,7 @@ pub fn sound(f: usize, slots: &[u32], entry: &[u64]) -> bool
     ensures { λ r. ⌜ r ≡ soundness f (now (slots .entry)) (now (entry .entry)) ⌝ }
 {
     let mut home = true;
-    let mut i = slots.len();
+    let mut i = used(slots);
     while 0 < i {
         i -= 1;
         if !sound_beside(f, slots[i], entry[i]) {
@@ -82,6 +82,34 @@ pub fn sound(f: usize, slots: &[u32], entry: &[u64]) -> bool
         return true;
     }
     !keys::has_twice(slots)
+}
+
+// How many slots are to be looked at: the last ones without a number, eight at a time, are left out.
+fn used(slots: &[u32]) -> usize
+    ensures { λ r. ⌜ (r ≤ length (now (slots .entry))) × ((j : ℕ) → r ≤ j → j < length (now (slots .entry)) → 65536 ≤ getD (now (slots .entry)) j 0) ⌝ }
+{
+    let mut i = slots.len();
+    while 8 <= i {
+        if !none_in(slots, i - 8) {
+            return i;
+        }
+        i -= 8;
+    }
+    i
+}
+
+// None of eight slots has a number. A `false` says nothing. Requires them.
+fn none_in(slots: &[u32], at: usize) -> bool
+    requires { ⌜ at + 8 ≤ length (now slots) ⌝ }
+    ensures { λ r. ⌜ (r ≡ true → (k : ℕ) → k < 8 → 65536 ≤ getD (now (slots .entry)) (at + k) 0) ⌝ }
+{
+    let mut all: u32 = 4294967295;
+    let mut k: usize = 0;
+    while k < 8 {
+        all = all & slots[at + k];
+        k += 1;
+    }
+    65536 <= all
 }
 
 // Each number so far stands in its own slot, and this one too, if it is one: then none stands twice.

@@ -8,6 +8,7 @@ use Prim.Native.Nat.{ℕ, _-_, _%_, _≤_, _<_}
 use native.Mathlib.Omega.{arith}
 use lib.ListN.{length, getD}
 use denote.Ref.{now}
+use borrow.Author.Tests.{le-leb}
 use Rattle.laws.proofs.Cases.{on, off}
 use Rattle.keys.proofs.Homes.{home-once}
 use Rattle.reassembly_plan.specs.Gate.{soundAt, sound}
@@ -20,7 +21,12 @@ abbrev μ-loop : tie.MeasureT-loop
 μ-loop f slots entry home₀ i₀ home i = i
 
 loop-holds : tie.Need-loop-holds Inv-loop μ-loop
-loop-holds c = (search needs, λ j l h. absurd (omega arith), λ e j l h. absurd (omega arith))
+loop-holds c =
+    let none = c .used .ensures .1 in
+    (c .used .ensures .0, λ j l h. rw (le-leb 65536 _ (none j l h)), λ e j l h key. absurd (omega (arith, none j l h)))
+
+used-requires : tie.Need-used-requires Inv-loop μ-loop
+used-requires c κs = search needs
 
 sub-i : tie.Need-sub-i Inv-loop μ-loop
 sub-i c = search needs
@@ -43,7 +49,7 @@ sound-beside-requires c κs = search needs
 returns : tie.Need-returns Inv-loop μ-loop
 unfolding sound
 returns c =
-    let a = c .before .before .before .before .before .before .before .before .args in
+    let a = c .before .before .before .before .before .before .before .before .before .args in
     let p = soundAt (a .f) (now (a .slots)) (now (a .entry)) in
     let l = c .before .before .before .before .before .loop in
     rw (all-not p (length (now (a .slots))) (l .i - 1) (omega arith) (sym (c .before .sound-beside .ensures) ∙ off (c .before .sound-beside .result) (c .if1 .taken)))
@@ -62,7 +68,7 @@ loop-less c = search needs
 
 loop-again : tie.Need-loop-again Inv-loop μ-loop
 loop-again c =
-    let a = c .before .before .before .before .before .before .before .before .before .before .args in
+    let a = c .before .before .before .before .before .before .before .before .before .before .before .args in
     let s = now (a .slots) in
     let l = c .before .before .before .before .before .before .before .loop in (
       omega arith,
@@ -76,7 +82,7 @@ loop-again c =
 returns-2 : tie.Need-returns-2 Inv-loop μ-loop
 unfolding sound
 returns-2 c =
-    let a = c .before .before .before .before .before .args in
+    let a = c .before .before .before .before .before .before .args in
     let s = now (a .slots) in
     let l = c .before .before .loop in
     let all = all-of (soundAt (a .f) s (now (a .entry))) (length s) (λ j. l .inv .1 j (omega arith)) in
@@ -89,7 +95,7 @@ has-twice-requires c κs = search needs
 returns-3 : tie.Need-returns-3 Inv-loop μ-loop
 unfolding sound
 returns-3 c =
-    let a = c .before .before .before .before .before .before .args in
+    let a = c .before .before .before .before .before .before .before .args in
     let s = now (a .slots) in
     let l = c .before .before .before .loop in
     let all = all-of (soundAt (a .f) s (now (a .entry))) (length s) (λ j. l .inv .1 j (omega arith)) in
@@ -101,6 +107,7 @@ sound-spec =
     (tie.spec
     Inv-loop
     μ-loop
+    used-requires
     loop-holds
     sub-i
     mul-sound-beside
