@@ -3,6 +3,8 @@
 // `dropped_packets` until it gives nothing. The counters go by value; the columns and the bytes are lent. The counters, a
 // fresh end and the questions are of `acks`, and have their names here too. It leaves out what is in a datagram, and when a
 // packet is sent again: that is the link.
+#![tactic(auto)]
+
 ghost use Rattle.std.specs.Prelude.{◌≡◌};
 ghost use Rattle.acks.specs.State.{lending};
 ghost use Rattle.acknowledgment.specs.Calls.{Incoming, Outgoing, answered_by, Dropping};

@@ -2,6 +2,8 @@
 // does once nothing is refused (`steps`). Read `Acknowledgment` and specs/State.antt first. What an end is asked is here too:
 // `packets_in_flight`, `ack_bitfield`. It leaves out the calls that change what is lent: those are `acknowledgment`, where a
 // user finds all of it.
+#![tactic(auto)]
+
 ghost use Rattle.std.specs.Prelude.{◌≡◌, length};
 ghost use Rattle.sequence_buffer.specs.Buffer.{fresh};
 ghost use Rattle.received.specs.Field.{newest_of};

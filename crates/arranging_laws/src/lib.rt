@@ -1,4 +1,6 @@
 // What the streams of a kind do over many calls. No code: each contract is a theorem, and its statement is under specs/.
+#![tactic(auto)]
+
 ghost use Rattle.arranging_laws.specs.Sound.{StaysSound};
 ghost use Rattle.arranging_laws.specs.Others.{OthersUntouched};
 

@@ -1,5 +1,7 @@
 // The arrival listing: indices of two bytes, high byte first, come from standard input, and a line for each says what a fresh
 // ordered stream does with it and which items go out. The items have no bytes: one that is taken has the index expected.
+#![tactic(auto)]
+
 use libc::{STDIN_FILENO, STDOUT_FILENO};
 use ordering::{OrderingStream, Taken};
 use serial::ItemId;

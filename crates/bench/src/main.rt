@@ -1,5 +1,7 @@
 // Performs a script of calls over one end of a link, for bench/run to count the instructions of those that are marked against
 // the Rust's. It prints a digest of every datagram sent and every item handed out. Read `script`, then `calls`.
+#![tactic(auto)]
+
 mod answers;
 mod calls;
 mod digest;

@@ -1,5 +1,7 @@
 // The datagrams of an item that is sent: its only one, or its fragments. Read `first` first; further.rt writes the further ones,
 // from what is in flight. It leaves out whether the item is refused, and what sending it makes of an end, which are `sending`.
+#![tactic(auto)]
+
 ghost use Rattle.std.specs.Prelude.{◌≡◌, ◌≤◌, ◌<◌, length, take};
 ghost use Rattle.received.specs.Record.{slot_count, KnownLapped};
 ghost use Rattle.packet_table.specs.Table.{follows};

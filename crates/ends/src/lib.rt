@@ -1,6 +1,8 @@
 // One end of a link, whole: its small counters, which go by value, and the tables and bytes that its owner lends at every call.
 // Read `End` and specs/State.antt first; `gate::check` is what every call of a user tries first. It leaves out what a datagram
 // does to an end: that is `receiving` and `sending`.
+#![tactic(auto)]
+
 ghost use Rattle.std.specs.Prelude.{◌≡◌, length};
 ghost use Rattle.sequence_buffer.specs.Buffer.{fresh};
 ghost use Rattle.ends.specs.State.{fresh_end};

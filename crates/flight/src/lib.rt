@@ -3,6 +3,8 @@
 // payload at k times the bytes of a slot. Read `store` first. Every function here is for the crates above: which numbers are
 // counted, acknowledged and dropped, and nothing of when that happens. A number is looked for at every place here; where each
 // packet stands at its own place, `flight_home` has the quick ways.
+#![tactic(auto)]
+
 ghost use Rattle.std.specs.Prelude.{◌≡◌, ◌+◌, ◌*◌, ◌<◌, ◌≤◌, length, slice_set};
 ghost use Rattle.std.proofs.Math.Seq.{paste};
 ghost use Rattle.flight.specs.Entry.{word_of, packed};

@@ -1,5 +1,7 @@
 // What holds of fragments over many calls. It has no code of its own: `splitter` has the pieces of a payload, `reassembly`
 // puts them together, and here stand the theorems over both.
+#![tactic(auto)]
+
 ghost use Rattle.fragmenter.specs.Present.{GivesBack};
 ghost use Rattle.fragmenter.specs.Runs.{StaysSound};
 ghost use Rattle.fragmenter.specs.Unpacked.{Unpacked};

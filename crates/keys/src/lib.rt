@@ -1,5 +1,7 @@
 // Columns of keys. An entry below 65,536 is a key (a packet number, an item's index); any other has none.
 // Every table of a link is found in and checked by the two functions here: `find` and `has_twice`.
+#![tactic(auto)]
+
 ghost use Rattle.std.specs.Prelude.{◌≡◌, true, false, ℕ, ◌+◌, ◌≤◌, ◌<◌, length, get_or};
 ghost use Rattle.keys.specs.Keys.{first_place, twice};
 ghost use Rattle.keys.specs.Exact.{TwiceIsExact};

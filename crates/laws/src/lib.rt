@@ -1,1 +1,2 @@
 // Lemmas that more than one crate cites. No code: read proofs/, one topic a file.
+#![tactic(auto)]

@@ -3,6 +3,8 @@
 // do. What comes is in crate link_incoming, what goes out in link_outgoing, and here is the rest, under one name with them. A
 // Rattle program that carries the proof that its end is sound calls the crates below those: `receiving::receive`,
 // `sending::transmit`, `datagrams::further::fragment`. It leaves out sockets, clocks, and when to send something again.
+#![tactic(auto)]
+
 pub mod drops;
 pub mod fresh;
 pub mod status;

@@ -1,4 +1,6 @@
 // What a whole end does over many calls. No code: each contract is a theorem, and its statement is under specs/.
+#![tactic(auto)]
+
 ghost use Rattle.link_laws.specs.Never.{NeverBroken};
 ghost use Rattle.link_laws.specs.Refused.{RefusedLeaves};
 

@@ -2,6 +2,8 @@
 // next one that is held; after each arrival a user takes until nothing comes. It leaves out who sends: that is the link; and
 // what is judged before anything is written: that is `ordering_plan`, with the stream's type.
 // The counters go by value, the tables and the bytes of 64 held items are lent.
+#![tactic(auto)]
+
 ghost use Rattle.ordering_plan.specs.State.{lending};
 ghost use Rattle.ordering.specs.Calls.{Arranges, Takes};
 

@@ -1,5 +1,7 @@
 // What an ordered stream does over many calls. No code: each contract is a theorem, and its statement is under specs/.
 // Read `in_order` first.
+#![tactic(auto)]
+
 ghost use Rattle.ordering_laws.specs.Held.{HeldIsAMap};
 ghost use Rattle.ordering_laws.specs.Sound.{StaysSound};
 ghost use Rattle.ordering_laws.specs.Full.{FullIsExact};

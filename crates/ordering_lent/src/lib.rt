@@ -1,5 +1,7 @@
 // The thin form of module 4: an ordered stream's counters are lent and change in place, as laminar's stream does.
 // `ordering::arrange`, by value, does the work. It leaves out `take`, of which document 01 asks no such form.
+#![tactic(auto)]
+
 ghost use Rattle.ordering_plan.specs.State.{lending};
 ghost use Rattle.ordering.specs.Calls.{Arranges};
 ghost use Rattle.ordering_lent.specs.Lent.{after};

@@ -1,6 +1,8 @@
 // One ordered stream before anything of it is written: its counters, what is refused at once, and what is to become of an item
 // that has come. `plan::judge` is the one to read first. It leaves out what is done then, and the calls of a user: those are
 // `ordering`.
+#![tactic(auto)]
+
 ghost use Rattle.std.specs.Prelude.{◌≡◌};
 ghost use Rattle.ordering_plan.specs.State.{fresh, numbered};
 

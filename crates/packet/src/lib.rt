@@ -2,6 +2,8 @@
 // Read `read_headers` and `build` first; which headers follow the standard one is the table of the crate `packet_table`, whose
 // types are named here too. It leaves out what a link does with a packet, and that reader and builder are inverse, which is the
 // crate `packet_laws`; and it never holds a payload: what is read says where the payload starts.
+#![tactic(auto)]
+
 use terms::Refusal;
 
 pub mod builder;

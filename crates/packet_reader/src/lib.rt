@@ -1,5 +1,7 @@
 // The thin reader of module 6: laminar's `PacketReader`, which holds the lent datagram and a position in it.
 // `packet::read_headers` does the work. A caller that holds no reader calls `read` and `rest`, over plain slices.
+#![tactic(auto)]
+
 ghost use Rattle.std.specs.Prelude.{◌≡◌, drop};
 ghost use Rattle.packet.specs.Read.{read_of};
 ghost use Rattle.packet_reader.specs.Reader.{position_after, moved};

@@ -1,6 +1,8 @@
 // What the headers of a datagram are, and the one table of which of them follow the standard one.
 // Read `table::headers_after` first; numbers.rt has the numbers in a datagram's bytes, high byte first. It leaves out whole
 // datagrams, which the crate `packet` reads and builds over this table.
+#![tactic(auto)]
+
 use serial::{ItemId, PacketNumber};
 
 pub mod numbers;

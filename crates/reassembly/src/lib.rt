@@ -2,6 +2,8 @@
 // told by a sequence buffer of C slots; what else an entry has stands in columns beside it, and its bytes in lent room.
 // What is judged before anything is written is `reassembly_plan`; here it is done. It leaves out headers on the wire and
 // acknowledgments: those are the link's.
+#![tactic(auto)]
+
 ghost use Rattle.reassembly.specs.Room.{lending};
 ghost use Rattle.reassembly.specs.Call.{Handles};
 

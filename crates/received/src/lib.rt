@@ -1,6 +1,8 @@
 // The record of received packet numbers, and what is told of it to the other end: the newest number and a field that
 // says which of the 32 before it are in the record. Read `ack_bitfield` first. The record is a sequence buffer: the
 // number after the newest by value, its slots lent. Every function here is for the crates above.
+#![tactic(auto)]
+
 ghost use Rattle.std.specs.Prelude.{◌≡◌, ◌≤◌, length};
 ghost use Rattle.laws.specs.Bits.{bits_below};
 ghost use Rattle.received.specs.Record.{slot_count, slots_of, recorded, KnownLapped};

@@ -1,6 +1,8 @@
 // A datagram has come: what it makes of one end, once 1, 2 and 13 are answered. Read `receive` first. It leaves out a packet
 // and a fragment, which are `receiving_packets` and `receiving_fragments` and judge everything before they write anything;
 // taking items of an ordered stream, which is `arranging`; and the users' call with its gate, which is `link`.
+#![tactic(auto)]
+
 ghost use Rattle.std.specs.Prelude.{◌≡◌};
 ghost use Rattle.terms.specs.declared.Gate.TheVariants.{Open};
 ghost use Rattle.flight_home.specs.AtHome.{KnownHome};

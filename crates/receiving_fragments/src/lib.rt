@@ -1,6 +1,8 @@
 // A fragment: it joins its message, and where that is whole the message is handed out and its packet acknowledged. Read `join`
 // first. It leaves out what becomes of the table of messages, which is `reassembly`, and reading the headers, which is
 // `receiving`.
+#![tactic(auto)]
+
 ghost use Rattle.std.specs.Prelude.{◌≡◌, ◌≤◌, length};
 ghost use Rattle.received.specs.Record.{slot_count};
 ghost use Rattle.flight_home.specs.AtHome.{KnownHome};

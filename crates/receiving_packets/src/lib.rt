@@ -1,6 +1,8 @@
 // A packet, as it was sent in one datagram: "after every check, `process_incoming`, then arranging". Read `accept` first: the
 // plan is judged by `receiving_plan`, then carried out. It leaves out reading the headers and what is over F, which is
 // `receiving`, and fragments, which are `receiving_fragments`.
+#![tactic(auto)]
+
 ghost use Rattle.std.specs.Prelude.{◌≡◌, false, ◌≤◌, length};
 ghost use Rattle.received.specs.Record.{slot_count};
 ghost use Rattle.flight_home.specs.AtHome.{KnownHome};

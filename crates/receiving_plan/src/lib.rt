@@ -1,6 +1,8 @@
 // What is answered when something has come, and what is to become of a packet: nothing is written before that is known. Read
 // `judge` first. It leaves out what a plan changes of an end, which is `receiving_packets`. What hearing of a packet changes is
 // defined here (`specs/Heard.antt`), for packets and fragments alike.
+#![tactic(auto)]
+
 ghost use Rattle.std.specs.Prelude.{◌≡◌, ℕ, ◌≤◌, ◌<◌, length};
 ghost use Rattle.arranging_plan.specs.Ordered.{stream_at};
 ghost use Rattle.receiving_plan.specs.Plan.{plan_of, sequenced_plan, ordered_plan, told, sequenced_told, ordered_told};

@@ -3,6 +3,8 @@
 // Read the crate `script` for the form of a field, then the operations in question: those of the connections in the crate
 // `replay_connection`, those of the single modules in `replay_modules`. A field goes through all of them, and each leaves
 // those of others alone.
+#![tactic(auto)]
+
 use replay_calls::Connection;
 use replay_modules::Modules;
 use script::{Field, Said, Window, print};

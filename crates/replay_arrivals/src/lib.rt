@@ -1,5 +1,7 @@
 // Tags 71, 77 and 78: datagrams come to an end. Each hands out what it does, and of an ordered stream what a take then gives,
 // until none. Only the program `replay` uses this crate.
+#![tactic(auto)]
+
 use ordering::Taken;
 use packet::{DeliveryGuarantee, OrderingGuarantee};
 use receiving::{Answer, Item};

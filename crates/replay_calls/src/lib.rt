@@ -1,5 +1,7 @@
 // The calls of a link over one end whose counters and small tables go by value: each lends what it has and what it is lent,
 // and hands back the end as the call leaves it. Only the parts of the program `replay` use this crate.
+#![tactic(auto)]
+
 pub mod tables;
 
 use acknowledgment::DroppedPackets;

@@ -1,5 +1,7 @@
 // Tags 70 to 7A for end 0, 80 to 8A for end 1: two connections. What is lent here is one end's alone, and the log of the
 // other, from which a datagram comes over the line. Only the program `replay` uses this crate.
+#![tactic(auto)]
+
 use link::fresh::Fresh;
 use link::status::Asked;
 use replay_calls::{Connection, tables};

@@ -1,5 +1,7 @@
 // Tags 72, 75 and 76: an end sends. Every datagram but those of 76 is told and goes into the end's log. Only the
 // program `replay` uses this crate.
+#![tactic(auto)]
+
 pub mod log;
 pub mod losses;
 

@@ -1,5 +1,7 @@
 // The operations of the single modules in a script: tags below 70. A module of operations has a `step`, which does nothing
 // where the tag is not its own: a field goes through them all. Only the program `replay` uses this crate.
+#![tactic(auto)]
+
 use replay_items::{fragments, ordered, sequenced};
 use replay_packets::{ack, buffer};
 use script::{Field, Said, print};

@@ -1,5 +1,7 @@
 // The form of a script: fields of a tag, a length of two bytes and a body; numbers high byte first. Only the program
 // `replay` and its modules use this crate.
+#![tactic(auto)]
+
 pub mod print;
 pub mod record;
 pub mod turns;

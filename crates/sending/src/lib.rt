@@ -1,6 +1,8 @@
 // An item is sent, or sent again: what that makes of one end, once 1, 2 and 13 are answered. Read `transmit` first. Everything is
 // judged (plan.rt) before anything is written (effects.rt). It leaves out what the datagrams of an item are, which is
 // `datagrams`, when to send again, and the users' calls with their gate, which are `link`.
+#![tactic(auto)]
+
 ghost use Rattle.std.specs.Prelude.{◌≡◌};
 ghost use Rattle.terms.specs.declared.Gate.TheVariants.{Open};
 ghost use Rattle.received.specs.Record.{KnownLapped};

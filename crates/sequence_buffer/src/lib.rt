@@ -2,6 +2,8 @@
 // length is the slot count (33 for received packets, C for reassembly). A number's slot is its remainder by that count.
 // Read `insert` first. What else an entry has is the caller's, in columns of its own: an entry is gone where its slot
 // has no number, and `insert` says which slot it took. Every function here is for the crates above.
+#![tactic(auto)]
+
 ghost use Rattle.std.specs.Prelude.{◌≡◌, map, ℕ, ◌%◌, ◌≤◌, ◌<◌, length, get_or, true, false};
 ghost use Rattle.sequence_buffer.specs.Buffer.{fresh, holds, too_old, goes, emptied, advanced_num, advanced_slots, inserted, inserted_slots, removed_slots};
 ghost use Rattle.sequence_buffer.specs.Facts.{SlotFacts};

@@ -1,5 +1,7 @@
 // One sequenced stream: an item that is not older than the newest goes on, any other is dropped. Nothing is held, so an item
 // that goes out is the caller's own payload, no storage is lent, and no call is refused.
+#![tactic(auto)]
+
 ghost use Rattle.std.specs.Prelude.{◌≡◌};
 ghost use Rattle.sequencing.specs.Sequence.{fresh, arranged, numbered};
 

@@ -1,5 +1,7 @@
 // Sixteen-bit numbers that come round: which of two is the greater, the next one, and how far one is from another.
 // Read `sequence_greater_than` first. It leaves out which numbers a link has seen: that is `sequence_buffer`.
+#![tactic(auto)]
+
 ghost use Rattle.std.specs.Prelude.{◌≡◌};
 ghost use Rattle.serial.specs.Order.{greater, next, back};
 ghost use Rattle.serial.specs.Agreement.{AgreesWithRfc1982};

@@ -1,5 +1,7 @@
 // A payload as pieces of F bytes, the last shorter. A piece is a part of the same payload, found from lengths alone.
 // Read `check` first. It leaves out headers and the sending itself: those are the link's.
+#![tactic(auto)]
+
 ghost use Rattle.std.specs.Prelude.{◌≡◌, [], ◌≤◌, ◌<◌, length, get_or};
 ghost use Rattle.splitter.specs.Split.{needed, pieces, split_of, Splits};
 

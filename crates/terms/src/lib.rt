@@ -1,5 +1,7 @@
 // The terms of a link: its sizes, and the numbers that come back where a call is refused.
 // Every entry point of every crate is given the same sizes and answers with the same refusals.
+#![tactic(auto)]
+
 ghost use Rattle.std.specs.Prelude.{◌≡◌};
 ghost use Rattle.terms.specs.Refusals.{number_of};
 ghost use Rattle.terms.specs.Sizes.{between, in_range};

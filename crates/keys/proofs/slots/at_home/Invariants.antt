@@ -1,0 +1,17 @@
+use borrow.Author.Rules.{rules}
+use mathlib.Core.Path.{◌≡◌, sym, subst}
+use Prim.Native.Nat.{ℕ, ◌-◌, ◌%◌, ◌≤◌, ◌<◌}
+use native.Mathlib.Nat.{not-suc-le-zero}
+use native.Mathlib.Omega.{arith}
+use lib.Bits.{and_le_l, and_le_r}
+use lib.ListN.{get_or}
+use borrow.Author.Count.{below_more}
+use borrow.Author.Tests.{leb-true}
+use Rattle.keys.proofs.Homes.{home_once}
+use Rattle.keys.proofs.slots.at_home.Given as goal
+
+abbrev pub invariant-loop-k : goal.invariant-loop-k
+invariant-loop-k l = (l.k ≤ 33) × ((j : ℕ) → j < l.k → 65536 ≤ l.all → get_or l.keys j 0 < 65536 → get_or l.keys j 0 % 33 ≡ j)
+
+abbrev pub decreases-loop-k : goal.decreases-loop-k
+decreases-loop-k l = 33 - l.k
