@@ -1,10 +1,9 @@
 -- What differs is a packet's word below 2^31, and `room` less is below that too unless it is at most `room`: then it has no number,
 -- so the numbers do not differ, and it is the length. A multiple of 64 and a place below 64 have no bit in common.
 use Rattle.std.proofs.Common.{◌≡◌, ℕ, ◌+◌, ◌*◌, ◌/◌, ◌%◌, ◌<◌, ◌≤◌, sym, ap, ◌∙◌, ap₂, inl, mod-lt, div-add-mod', zero-add, arith, rules}
-use Rattle.key_parts.proofs.wide.without.Statement.{statement}
-use Rattle.key_parts.proofs.wide.without.Tie as tie
 use lib.Bits.{bit_xor, xor_block, xor_lt, xor_zero_r, xor_shr, xor_mod}
 use Rattle.laws.proofs.Bits.{xor_none}
+use Rattle.key_parts.proofs.wide.without.Goals as goal
 
 stands : (number first place : ℕ) → first % 64 ≡ 0 → place < 64 → bit_xor number place ≡ first → number ≡ first + place
 stands number first place even small e =
@@ -28,28 +27,14 @@ length_of_lem word place first even =
     ∙ ap₂ bit_xor (xor_mod word place 15 ∙ ap (bit_xor (word % 32768)) even ∙ xor_zero_r (word % 32768)) (let e : first * 32768 % 32768 ≡ 0 = omega arith in e)
     ∙ xor_zero_r (word % 32768)
 
-mul-wrapping-sub-u32 : tie.Need-overflow-mul-wrapping-sub-u32
-mul-wrapping-sub-u32 c = search rules
-
-add-wrapping-sub-u32 : tie.Need-overflow-add-wrapping-sub-u32
-add-wrapping-sub-u32 c = search rules
-
-wrapping-sub-u32-requires : tie.Need-wrapping-sub-u32-requires
-wrapping-sub-u32-requires c κs = search rules
-
-returns : tie.Need-returns
+pub returns : goal.returns
 returns c =
     let a = c.before.args in
     let p = c.before.requires in
     λ h k.
     let low = xor_lt 31 a.word a.place k (omega arith) in
     let differ = xor_lt 31 (bit_xor a.word a.place) (a.first * 32768) low (omega arith) in
-    let few : bit_xor (bit_xor a.word a.place) (a.first * 32768) ≤ a.room = omega (arith, differ, c.wrapping-sub-u32.ensures, h) in
+    let few : bit_xor (bit_xor a.word a.place) (a.first * 32768) ≤ a.room = omega (arith, differ, c.wrapping_sub_u32.ensures.value, h) in
     let none : bit_xor (bit_xor (a.word / 32768) (a.place / 32768)) a.first ≡ 0 = omega (arith, number_of a.word a.place a.first, few) in
     let number = stands (a.word / 32768) a.first (a.place / 32768) p.1 (omega arith) (xor_none _ _ none) in
     (inl number, omega (arith, length_of_lem a.word a.place a.first p.3, few))
-
-pub without-spec : {M : Type 1} → statement M
-without-spec =
-    tie.close
-    (tie.spec mul-wrapping-sub-u32 add-wrapping-sub-u32 wrapping-sub-u32-requires returns)

@@ -1,21 +1,17 @@
-use Rattle.terms.proofs.within.Statement.{statement}
-use Rattle.terms.proofs.within.Tie as tie
 use Prim.Native.Nat.{◌≤◌, ◌<◌}
 use native.Mathlib.Omega.{arith}
 use borrow.Author.Tests.{le-leb, lt-leb}
 use Rattle.terms.specs.Sizes.{between}
+use Rattle.terms.proofs.within.Goals as goal
 
-returns : tie.Need-returns
+pub returns-then-size-ge1 : goal.returns-then-size-ge1
 unfolding between
-returns c =
+returns-then-size-ge1 c =
     let some : 1 ≤ c.before.args.size = omega arith in
     rw (le-leb _ _ some)
 
-returns-2 : tie.Need-returns-2
+pub returns-else-size-ge1 : goal.returns-else-size-ge1
 unfolding between
-returns-2 c =
+returns-else-size-ge1 c =
     let none : c.before.args.size < 1 = omega arith in
     rw (lt-leb _ _ none)
-
-pub within-spec : {M : Type 1} → statement M
-within-spec = tie.close (tie.spec returns returns-2)

@@ -1,0 +1,10 @@
+use Rattle.std.proofs.Common.{◌≡◌, ℕ, ◌+◌, ◌-◌, ◌%◌, ◌<◌, ◌≤◌, true, ltb, get_or, sym, subst, arith, rules, below_more, ltb-true, eqb-true}
+use Rattle.key_parts.specs.Laps.{InLap, Lapped}
+use Rattle.key_parts.proofs.Lapped.{or_parts, lapped, lapped_once}
+use Rattle.key_parts.proofs.laps.is_lapped.Given as goal
+
+abbrev pub invariant-loop-k : goal.invariant-loop-k
+invariant-loop-k l = (l.k ≤ 33) × ((j : ℕ) → j < l.k → l.odd % 32 ≡ 0 → l.odd < 1024 → InLap j ((get_or l.keys j 0 + l.shift) % 4294967296))
+
+abbrev pub decreases-loop-k : goal.decreases-loop-k
+decreases-loop-k l = 33 - l.k

@@ -1,0 +1,10 @@
+use Rattle.std.proofs.Common.{ℕ, ◌+◌, ◌-◌, ◌<◌, ◌≤◌, get_or, not-suc-le-zero, arith, rules, below_more, leb-true}
+use lib.Bits.{and_le_l, and_le_r}
+use Rattle.key_parts.specs.Words.{no_packet, Placed}
+use Rattle.key_parts.proofs.parts.in_step.Given as goal
+
+abbrev pub invariant-loop-k : goal.invariant-loop-k
+invariant-loop-k l = (l.k ≤ 32) × ((j : ℕ) → j < l.k → no_packet ≤ l.all → Placed l.room l.lap l.last (l.at + j) (get_or l.words (l.at + j) 0))
+
+abbrev pub decreases-loop-k : goal.decreases-loop-k
+decreases-loop-k l = 32 - l.k

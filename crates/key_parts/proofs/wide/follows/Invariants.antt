@@ -1,0 +1,10 @@
+use Rattle.std.proofs.Common.{◌≡◌, ℕ, ◌+◌, ◌-◌, ◌*◌, ◌/◌, ◌<◌, ◌≤◌, get_or, subst, not-suc-le-zero, arith, rules, below_more, leb-true}
+use lib.Bits.{and_le_l, and_le_r}
+use Rattle.key_parts.specs.Words.{no_packet, Word}
+use Rattle.key_parts.proofs.wide.follows.Given as goal
+
+abbrev pub invariant-loop-k : goal.invariant-loop-k
+invariant-loop-k l = (l.k ≤ 64) × (l.place ≡ l.k * 32768) × ((j : ℕ) → j < l.k → no_packet ≤ l.all → Word l.room (l.first + j) (l.first + j) (get_or l.words (l.at + j) 0))
+
+abbrev pub decreases-loop-k : goal.decreases-loop-k
+decreases-loop-k l = 64 - l.k

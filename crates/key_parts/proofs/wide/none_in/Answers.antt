@@ -1,0 +1,21 @@
+-- What is left of the bits is at most each entry passed.
+use Rattle.std.proofs.Common.{ℕ, ◌+◌, ◌-◌, ◌<◌, ◌≤◌, get_or, not-suc-le-zero, arith, rules, below_more, leb-true}
+use lib.Bits.{and_le_l, and_le_r}
+use Rattle.key_parts.proofs.wide.none_in.Goals as goal
+
+pub loop-k-init : goal.loop-k-init
+loop-k-init c = (omega arith, λ j h. absurd (not-suc-le-zero h))
+
+pub loop-k-preserved : goal.loop-k-preserved
+loop-k-preserved c =
+    let l = c.before.before.loop-k in
+    let a = c.before.before.before.args in
+    let e = get_or a.words.now (a.at + l.k) 0 in (
+      omega arith,
+      below_more (λ (j : ℕ). _ ≤ get_or a.words.now (a.at + j) 0) l.k
+          (λ j h. omega (arith, l.invariant.1 j h, and_le_l l.all e))
+          (and_le_r l.all e),
+    )
+
+pub returns : goal.returns
+returns c = λ e k h. omega (arith, c.before.loop-k.invariant.1 k (omega arith), leb-true 2147483648 c.before.loop-k.all e)
