@@ -38,6 +38,6 @@ pub fn put(text: &mut [u8], at: usize, word: &[u8]) -> usize {
     if text.len() - at < word.len() {
         return at;
     }
-    bytes::copy(word, &mut text[at..]);
+    copying::copy(word, &mut text[at..]);
     at + word.len()
 }

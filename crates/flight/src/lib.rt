@@ -43,7 +43,7 @@ pub fn store(
 {
     let start = at * room;
     let count = payload.len();
-    bytes::copy(payload, &mut bytes[start..start + count]);
+    copying::copy(payload, &mut bytes[start..start + count]);
     number[at] = entry::word(packet, count);
     records[at] = entry::pack(sent);
 }

@@ -44,7 +44,7 @@ pub fn drop_one(
     let at = crate::places::find(number, packet);
     let count = crate::entry::payload_length(number[at]);
     let start = at * room;
-    bytes::copy(&bytes[start..start + count], output);
+    copying::copy(&bytes[start..start + count], output);
     number[at] = sequence_buffer::NONE;
     Drop::Packet(Dropped {
         number: packet,

@@ -36,7 +36,7 @@ pub fn hand_out(plan: Arranged, payload: &[u8], output: &mut [u8])
 {
     match plan {
         Arranged::Out => {
-            bytes::copy(payload, output);
+            copying::copy(payload, output);
         }
         Arranged::Held(_) => {}
         Arranged::Old => {}
@@ -73,7 +73,7 @@ fn hold(
 {
     let at = k * f;
     let n = payload.len();
-    bytes::copy(payload, &mut bytes[at..at + n]);
+    copying::copy(payload, &mut bytes[at..at + n]);
     index[k] = item.0 as u32;
     lengths[k] = n as u16;
     grow(stream, k)

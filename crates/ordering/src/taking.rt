@@ -32,7 +32,7 @@ pub fn take_next(
     }
     let n = lengths[k] as usize;
     let at = k * f;
-    bytes::copy(&bytes[at..at + n], output);
+    copying::copy(&bytes[at..at + n], output);
     let last = held - 1;
     let last_index = index[last];
     let last_length = lengths[last];

@@ -51,7 +51,7 @@ pub fn write(
     let at = table::payload_at(following, headers.fragment.id);
     write_standard_header(version, standard, output);
     write_following(following, headers, output);
-    bytes::copy(payload, &mut output[at..]);
+    copying::copy(payload, &mut output[at..]);
     at + payload.len()
 }
 

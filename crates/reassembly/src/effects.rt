@@ -167,7 +167,7 @@ fn join(plan: Plan, bytes: &mut [u8], room: usize, payload: &[u8])
         Plan::Join(joining) => {
             let start = room + joining.at;
             let end = start + payload.len();
-            bytes::copy(payload, &mut bytes[start..end]);
+            copying::copy(payload, &mut bytes[start..end]);
         }
     }
 }
@@ -184,7 +184,7 @@ fn hand_out(plan: Plan, bytes: &[u8], room: usize, output: &mut [u8])
             let entry = joining.entry;
             if goes_out(entry) {
                 let end = room + message_length(entry);
-                bytes::copy(&bytes[room..end], output);
+                copying::copy(&bytes[room..end], output);
             }
         }
     }

@@ -212,7 +212,7 @@ fn hand_out(answer: Answer, payload: &[u8], output: &mut [u8])
 {
     match answer {
         Answer::Out(_) => {
-            bytes::copy(payload, output);
+            copying::copy(payload, output);
         }
         Answer::Held => {}
         Answer::Old => {}

@@ -32,7 +32,7 @@ pub fn push(row: &mut [u8], count: usize, given: &[u8]) -> bool {
     if row.len() - from < given.len() {
         return false;
     }
-    bytes::copy(given, &mut row[from..]);
+    copying::copy(given, &mut row[from..]);
     let end = script::difference(from + given.len(), TABLE);
     write(row, 4 * count + 4, end);
     true
