@@ -15,14 +15,14 @@ use flight::lost::{Drop, Dropped};
 use serial::PacketNumber;
 use terms::{Refusal, Sizes};
 
-#[derive(Drop)]
+#[derive(Clone, Copy)]
 pub enum Processed {
     Done(Acknowledgment),
     Refused(Refusal),
 }
 
 // What was given up.
-#[derive(Drop)]
+#[derive(Clone, Copy)]
 pub enum DroppedPackets {
     Nothing,
     Packet(Dropped),

@@ -18,7 +18,7 @@ pub mod home;
 pub mod steps;
 
 // The small counters of an end.
-#[derive(Drop)]
+#[derive(Clone, Copy)]
 pub struct Acknowledgment {
     // The number of the next packet.
     pub sequence_number: PacketNumber,
@@ -28,13 +28,13 @@ pub struct Acknowledgment {
     pub received: PacketNumber,
 }
 
-#[derive(Drop)]
+#[derive(Clone, Copy)]
 pub enum InFlight {
     Packets(usize),
     Refused(Refusal),
 }
 
-#[derive(Drop)]
+#[derive(Clone, Copy)]
 pub enum AckBitfield {
     Field(u32),
     Refused(Refusal),

@@ -14,7 +14,7 @@ use sequencing::Sequenced;
 use serial::ItemId;
 use terms::{Gate, Refusal, Sizes};
 
-#[derive(Drop)]
+#[derive(Clone, Copy)]
 pub struct AfterArrange {
     pub answer: Arranged,
     pub streams: OrderingStreams,
@@ -94,14 +94,14 @@ pub fn take(
 }
 
 // What becomes of an item that has come on a sequenced stream: one that goes out is the caller's own payload.
-#[derive(Drop)]
+#[derive(Clone, Copy)]
 pub enum SequenceAnswer {
     Out,
     Dropped,
     Refused(Refusal),
 }
 
-#[derive(Drop)]
+#[derive(Clone, Copy)]
 pub struct AfterSequence {
     pub answer: SequenceAnswer,
     pub streams: SequencingStreams,

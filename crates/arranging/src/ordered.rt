@@ -9,13 +9,13 @@ use ordering::Taken;
 use ordering_plan::Arranged;
 use serial::ItemId;
 
-#[derive(Drop)]
+#[derive(Clone, Copy)]
 pub struct AfterTake {
     pub answer: Taken,
     pub streams: OrderingStreams,
 }
 
-#[derive(Drop)]
+#[derive(Clone, Copy)]
 pub struct NewItem {
     pub item: ItemId,
     pub streams: OrderingStreams,

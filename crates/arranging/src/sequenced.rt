@@ -6,19 +6,19 @@ use arranging_plan::ids::StreamIds;
 use sequencing::{Sequenced, SequencingStream};
 use serial::ItemId;
 
-#[derive(Drop)]
+#[derive(Clone, Copy)]
 pub struct SequencingStreams {
     pub known: StreamIds,
     pub streams: [SequencingStream; 4],
 }
 
-#[derive(Drop)]
+#[derive(Clone, Copy)]
 pub struct AfterArrange {
     pub answer: Sequenced,
     pub streams: SequencingStreams,
 }
 
-#[derive(Drop)]
+#[derive(Clone, Copy)]
 pub struct NewItem {
     pub item: ItemId,
     pub streams: SequencingStreams,

@@ -2,7 +2,7 @@
 ghost use Rattle.std.specs.Prelude.{◌≡◌, ◌≤◌, ◌<◌};
 ghost use Rattle.arranging_plan.specs.Ids.{no_ids, place_of, sound_ids, made_at};
 
-#[derive(Drop)]
+#[derive(Clone, Copy)]
 pub struct StreamIds {
     pub made: usize,
     // The ids of those made, in the first places.

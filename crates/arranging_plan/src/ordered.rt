@@ -9,14 +9,14 @@ use ordering_plan::{Arranged, OrderingStream};
 use serial::ItemId;
 use terms::Refusal;
 
-#[derive(Drop)]
+#[derive(Clone, Copy)]
 pub struct OrderingStreams {
     pub known: StreamIds,
     pub streams: [OrderingStream; 4],
 }
 
 // What is to become of an item, and the place of its stream.
-#[derive(Drop)]
+#[derive(Clone, Copy)]
 pub struct Planned {
     pub at: usize,
     pub plan: Arranged,

@@ -10,7 +10,7 @@ use terms::Sizes;
 mod text;
 
 // The stream after some arrivals, and how much of the text is filled.
-#[derive(Drop)]
+#[derive(Clone, Copy)]
 struct Listed {
     stream: OrderingStream,
     at: usize,

@@ -1,7 +1,7 @@
 // What shows which work was done: the sum of the bytes that went out, and the sum of those sums, which their order changes.
 use crate::tables::Run;
 
-#[derive(Drop)]
+#[derive(Clone, Copy)]
 pub struct Digest {
     pub sum: u32,
     pub sums: u32,

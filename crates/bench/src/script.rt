@@ -22,13 +22,13 @@ const THE_CHECK: u8 = 2;
 
 const THE_MARKS: u8 = 3;
 
-#[derive(Drop)]
+#[derive(Clone, Copy)]
 pub struct Start {
     pub sizes: Sizes,
     pub steps: u16,
 }
 
-#[derive(Drop)]
+#[derive(Clone, Copy)]
 pub struct Step {
     pub kind: u8,
     pub counts_call: bool,

@@ -2,7 +2,7 @@
 // function is lent each costs the check more. What is copied for it lies outside the marks.
 use ends::End;
 
-#[derive(Drop)]
+#[derive(Clone, Copy)]
 pub struct Tables {
     pub received: [u32; 33],
     pub number: [u32; 256],
@@ -16,7 +16,7 @@ pub struct Tables {
 }
 
 // An end as a call has left it, and how many bytes it wrote at the start of the output.
-#[derive(Drop)]
+#[derive(Clone, Copy)]
 pub struct Run {
     pub end: End,
     pub tables: Tables,

@@ -21,7 +21,7 @@ use serial::{ItemId, PacketNumber};
 use terms::{Refusal, Sizes};
 
 // A datagram of so many bytes is at the start of the output, or there is no such fragment.
-#[derive(Drop)]
+#[derive(Clone, Copy)]
 pub enum Further {
     Datagram(usize),
     Nothing,

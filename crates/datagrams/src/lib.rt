@@ -19,14 +19,14 @@ use serial::{ItemId, PacketNumber};
 pub mod further;
 
 // The identifier of an item on its stream: the next one, or the one that it had.
-#[derive(Drop)]
+#[derive(Clone, Copy)]
 pub enum Identifier {
     Next,
     Again(ItemId),
 }
 
 // What is asked of an item. `stream` and `identifier` are those of an ordered or sequenced one.
-#[derive(Drop)]
+#[derive(Clone, Copy)]
 pub struct Item {
     pub delivery: DeliveryGuarantee,
     pub ordering: OrderingGuarantee,

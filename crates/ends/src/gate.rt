@@ -38,7 +38,7 @@ pub fn check(
 
 // What the gate says, and two things that it may have seen, where a `false` says nothing: each packet in flight at its own
 // place, and the slots of the received record in laps.
-#[derive(Drop)]
+#[derive(Clone, Copy)]
 pub struct Checked {
     pub gate: Gate,
     pub home: bool,

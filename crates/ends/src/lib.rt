@@ -14,7 +14,7 @@ use serial::PacketNumber;
 
 pub mod gate;
 
-#[derive(Drop)]
+#[derive(Clone, Copy)]
 pub struct End {
     pub acks: Acknowledgment,
     // The number after the newest message that was put together, or is.

@@ -18,7 +18,7 @@ pub mod lost;
 pub mod places;
 
 // What is kept of a packet beside its payload, and given back where it is dropped.
-#[derive(Drop)]
+#[derive(Clone, Copy)]
 pub struct SentPacket {
     pub ordering: u8,
     pub stream: u8,

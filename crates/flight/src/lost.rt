@@ -9,14 +9,14 @@ use key_parts::parts::NO_PACKET;
 use serial::PacketNumber;
 
 // A packet that is given back. Its payload stands at the start of the output.
-#[derive(Drop)]
+#[derive(Clone, Copy)]
 pub struct Dropped {
     pub number: PacketNumber,
     pub sent: SentPacket,
     pub count: usize,
 }
 
-#[derive(Drop)]
+#[derive(Clone, Copy)]
 pub enum Drop {
     Nothing,
     Packet(Dropped),

@@ -7,13 +7,13 @@ ghost use Rattle.link.specs.Calls.{new_of, filled};
 use ends::{End, gate};
 use terms::{Refusal, Sizes};
 
-#[derive(Drop)]
+#[derive(Clone, Copy)]
 pub enum Fresh {
     Ready,
     Refused(Refusal),
 }
 
-#[derive(Drop)]
+#[derive(Clone, Copy)]
 pub struct Begun {
     pub end: End,
     pub answer: Fresh,

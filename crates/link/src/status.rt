@@ -7,7 +7,7 @@ use ends::{End, gate};
 use serial::PacketNumber;
 use terms::{Gate, Refusal, Sizes};
 
-#[derive(Drop)]
+#[derive(Clone, Copy)]
 pub struct Status {
     pub packets_in_flight: usize,
     // The number of the next reliable packet.
@@ -17,7 +17,7 @@ pub struct Status {
     pub ack_bitfield: u32,
 }
 
-#[derive(Drop)]
+#[derive(Clone, Copy)]
 pub enum Asked {
     Told(Status),
     Refused(Refusal),

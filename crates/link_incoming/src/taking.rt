@@ -9,7 +9,7 @@ use ends::{End, gate};
 use ordering::Taken;
 use terms::{Gate, Sizes};
 
-#[derive(Drop)]
+#[derive(Clone, Copy)]
 pub struct Took {
     pub end: End,
     pub answer: Taken,

@@ -17,7 +17,7 @@ pub mod taking;
 pub use ordering_plan::{Arranged, NewItem, OrderingStream};
 
 // What a take found.
-#[derive(Drop)]
+#[derive(Clone, Copy)]
 pub enum Taken {
     // An item of so many bytes, at the start of the output.
     Item(usize),
@@ -25,13 +25,13 @@ pub enum Taken {
     Refused(Refusal),
 }
 
-#[derive(Drop)]
+#[derive(Clone, Copy)]
 pub struct AfterArrange {
     pub answer: Arranged,
     pub stream: OrderingStream,
 }
 
-#[derive(Drop)]
+#[derive(Clone, Copy)]
 pub struct AfterTake {
     pub answer: Taken,
     pub stream: OrderingStream,

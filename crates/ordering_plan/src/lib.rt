@@ -13,7 +13,7 @@ pub mod gate;
 pub mod plan;
 
 // The small counters of a stream. How it is called is told by whoever has several.
-#[derive(Drop)]
+#[derive(Clone, Copy)]
 pub struct OrderingStream {
     pub expected_index: ItemId,
     // The identifier of the next item sent.
@@ -23,7 +23,7 @@ pub struct OrderingStream {
 }
 
 // What becomes of an item that has come. `plan::judge` answers it as a plan, `ordering::arrange` once it is done.
-#[derive(Drop)]
+#[derive(Clone, Copy)]
 pub enum Arranged {
     Out,
     // At which place.
@@ -32,7 +32,7 @@ pub enum Arranged {
     Refused(Refusal),
 }
 
-#[derive(Drop)]
+#[derive(Clone, Copy)]
 pub struct NewItem {
     pub item: ItemId,
     pub stream: OrderingStream,

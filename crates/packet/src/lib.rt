@@ -17,14 +17,14 @@ pub use packet_table::{
 pub use reader::read_headers;
 
 // The payload is the rest of the datagram from `at` on, `&datagram[at..]`. A refusal is 3 or 4.
-#[derive(Drop)]
+#[derive(Clone, Copy)]
 pub enum Read {
     Found { headers: Headers, at: usize },
     Refused(Refusal),
 }
 
 // The length of the datagram that was built. A refusal is 4 or 2.
-#[derive(Drop)]
+#[derive(Clone, Copy)]
 pub enum Built {
     Datagram(usize),
     Refused(Refusal),

@@ -14,13 +14,13 @@ use serial::{ItemId, PacketNumber};
 use terms::Refusal;
 
 // A place in a datagram.
-#[derive(Drop)]
+#[derive(Clone, Copy)]
 pub struct Cursor {
     pub at: usize,
 }
 
 // The place past a header, or that the datagram ends inside it.
-#[derive(Drop)]
+#[derive(Clone, Copy)]
 pub enum Next {
     At(Cursor),
     Cut,

@@ -18,14 +18,14 @@ pub const ACKED_PACKET_HEADER: usize = 8;
 pub const ARRANGING_PACKET_HEADER: usize = 3;
 
 // How a packet should be delivered.
-#[derive(Drop)]
+#[derive(Clone, Copy)]
 pub enum DeliveryGuarantee {
     Unreliable,
     Reliable,
 }
 
 // How a packet should be arranged.
-#[derive(Drop)]
+#[derive(Clone, Copy)]
 pub enum OrderingGuarantee {
     None,
     Sequenced,
@@ -33,7 +33,7 @@ pub enum OrderingGuarantee {
 }
 
 // What a datagram is.
-#[derive(Drop)]
+#[derive(Clone, Copy)]
 pub enum PacketType {
     Packet,
     Fragment,
@@ -41,7 +41,7 @@ pub enum PacketType {
 }
 
 // The header of every datagram, but for the version word.
-#[derive(Drop)]
+#[derive(Clone, Copy)]
 pub struct StandardHeader {
     pub packet_type: PacketType,
     pub delivery: DeliveryGuarantee,
@@ -49,7 +49,7 @@ pub struct StandardHeader {
 }
 
 // `number` is the packet's that the fragment is a part of.
-#[derive(Drop)]
+#[derive(Clone, Copy)]
 pub struct FragmentHeader {
     pub number: PacketNumber,
     pub id: u8,
@@ -57,7 +57,7 @@ pub struct FragmentHeader {
 }
 
 // `acked` is the newest number that the other end has received, and bit i - 1 of `field` says that it has the one i before it.
-#[derive(Drop)]
+#[derive(Clone, Copy)]
 pub struct AckedPacketHeader {
     pub number: PacketNumber,
     pub acked: PacketNumber,
@@ -65,14 +65,14 @@ pub struct AckedPacketHeader {
 }
 
 // The item's place among those of its stream.
-#[derive(Drop)]
+#[derive(Clone, Copy)]
 pub struct ArrangingHeader {
     pub index: ItemId,
     pub stream: u8,
 }
 
 // A header that does not follow has 0 in every field.
-#[derive(Drop)]
+#[derive(Clone, Copy)]
 pub struct Headers {
     pub standard: StandardHeader,
     pub fragment: FragmentHeader,

@@ -9,7 +9,7 @@ use crate::{
 };
 
 // The headers that follow the standard one, in their order; a fragment's acknowledgment follows where its id is 0.
-#[derive(Drop)]
+#[derive(Clone, Copy)]
 pub enum Following {
     Unlisted,
     Nothing,

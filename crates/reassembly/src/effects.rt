@@ -11,13 +11,13 @@ use serial::PacketNumber;
 use terms::Refusal;
 
 // A message that is whole: so many bytes at the start of the output, and fragment 0's header.
-#[derive(Drop)]
+#[derive(Clone, Copy)]
 pub struct Message {
     pub length: usize,
     pub header: AckHeader,
 }
 
-#[derive(Drop)]
+#[derive(Clone, Copy)]
 pub enum Answer {
     // The fragment has joined, and more are to come.
     Waiting,
@@ -25,7 +25,7 @@ pub enum Answer {
     Refused(Refusal),
 }
 
-#[derive(Drop)]
+#[derive(Clone, Copy)]
 pub struct Handled {
     pub sequence_num: PacketNumber,
     pub answer: Answer,

@@ -9,7 +9,7 @@ use serial::PacketNumber;
 use terms::Refusal;
 
 // A fragment that has come, but for its payload.
-#[derive(Drop)]
+#[derive(Clone, Copy)]
 pub struct Fragment {
     pub number: PacketNumber,
     pub id: u8,
@@ -19,7 +19,7 @@ pub struct Fragment {
 }
 
 // A fragment that joins its message.
-#[derive(Drop)]
+#[derive(Clone, Copy)]
 pub struct Joining {
     // Its entry is made first.
     pub made: bool,
@@ -30,7 +30,7 @@ pub struct Joining {
 }
 
 // What is to become of a fragment.
-#[derive(Drop)]
+#[derive(Clone, Copy)]
 pub enum Plan {
     Refuse(Refusal),
     // 8 where the entry was absent: it is made, and the fragment refused.

@@ -6,7 +6,7 @@ ghost use Rattle.reassembly_plan.specs.Words.{entry_of, entry_word, header_of, h
 use serial::PacketNumber;
 
 // A message that is put together. Fragment 0 was received where id 0 was.
-#[derive(Drop)]
+#[derive(Clone, Copy)]
 pub struct Entry {
     // How many fragments it has, as its first one said. Any byte.
     pub total: u8,
@@ -18,7 +18,7 @@ pub struct Entry {
 }
 
 // The acknowledgment header that came with fragment 0.
-#[derive(Drop)]
+#[derive(Clone, Copy)]
 pub struct AckHeader {
     pub number: PacketNumber,
     pub acked: PacketNumber,

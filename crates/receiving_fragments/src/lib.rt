@@ -19,7 +19,7 @@ use serial::PacketNumber;
 use terms::Sizes;
 
 // What a fragment changes of an end, and the answer. It leaves out the streams, so that they are not copied on the way.
-#[derive(Drop)]
+#[derive(Clone, Copy)]
 pub struct Joined {
     pub acks: Acknowledgment,
     pub reassembly: PacketNumber,

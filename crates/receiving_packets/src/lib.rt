@@ -21,7 +21,7 @@ use packet::{AckedPacketHeader, ArrangingHeader, DeliveryGuarantee, Headers};
 use receiving_plan::{Answer, Item, Plan};
 use terms::{Refusal, Sizes};
 
-#[derive(Drop)]
+#[derive(Clone, Copy)]
 pub struct Received {
     pub end: End,
     pub answer: Answer,

@@ -17,7 +17,7 @@ use terms::Refusal;
 
 // An item that is handed out: so many bytes at the start of the output, and how it was sent. `stream` is that of an ordered or
 // sequenced item.
-#[derive(Drop)]
+#[derive(Clone, Copy)]
 pub struct Item {
     pub delivery: DeliveryGuarantee,
     pub ordering: OrderingGuarantee,
@@ -25,7 +25,7 @@ pub struct Item {
     pub length: usize,
 }
 
-#[derive(Drop)]
+#[derive(Clone, Copy)]
 pub enum Answer {
     Out(Item),
     // An ordered item waits for one before it.
@@ -41,13 +41,13 @@ pub enum Answer {
 }
 
 // What becomes of a sequenced item, and the place of its stream.
-#[derive(Drop)]
+#[derive(Clone, Copy)]
 pub struct Sequencing {
     pub at: usize,
     pub answer: Sequenced,
 }
 
-#[derive(Drop)]
+#[derive(Clone, Copy)]
 pub enum Plan {
     Refuse(Refusal),
     // An unordered item is handed out at each arrival.

@@ -10,7 +10,7 @@ use replay_modules::Modules;
 use script::{Field, Said, Window, print};
 
 // The two connections.
-#[derive(Drop)]
+#[derive(Clone, Copy)]
 struct Ends {
     end0: Connection,
     end1: Connection,
@@ -18,7 +18,7 @@ struct Ends {
 }
 
 // Whether a run goes on, where it is in its script, and all that the script has made.
-#[derive(Drop)]
+#[derive(Clone, Copy)]
 struct Run {
     on: bool,
     window: Window,

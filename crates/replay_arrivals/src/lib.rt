@@ -9,7 +9,7 @@ use replay_calls::Connection;
 use script::{print, turns};
 
 // An end, and how many items have come out of it so far.
-#[derive(Drop)]
+#[derive(Clone, Copy)]
 pub struct Arrived {
     pub connection: Connection,
     pub out: u64,
@@ -101,7 +101,7 @@ fn arrive(
 }
 
 // What a datagram itself has left, and of which ordered stream is then to be taken: NO_STREAM where nothing of one came out.
-#[derive(Drop)]
+#[derive(Clone, Copy)]
 struct Next {
     arrived: Arrived,
     stream: usize,

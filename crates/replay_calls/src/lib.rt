@@ -16,7 +16,7 @@ use serial::PacketNumber;
 use tables::Tables;
 use terms::Sizes;
 
-#[derive(Drop)]
+#[derive(Clone, Copy)]
 pub struct Connection {
     pub made: bool,
     pub sizes: Sizes,
@@ -27,31 +27,31 @@ pub struct Connection {
     pub full: bool,
 }
 
-#[derive(Drop)]
+#[derive(Clone, Copy)]
 pub struct Begun {
     pub connection: Connection,
     pub answer: Fresh,
 }
 
-#[derive(Drop)]
+#[derive(Clone, Copy)]
 pub struct Heard {
     pub connection: Connection,
     pub answer: receiving::Answer,
 }
 
-#[derive(Drop)]
+#[derive(Clone, Copy)]
 pub struct Took {
     pub connection: Connection,
     pub answer: Taken,
 }
 
-#[derive(Drop)]
+#[derive(Clone, Copy)]
 pub struct Sent {
     pub connection: Connection,
     pub answer: sending::Answer,
 }
 
-#[derive(Drop)]
+#[derive(Clone, Copy)]
 pub struct Lost {
     pub connection: Connection,
     pub answer: DroppedPackets,

@@ -1,6 +1,6 @@
 // The small tables of one end, as long as a link asks for. They go by value: of the slices that a function is lent each costs
 // the check more, and an end has eleven.
-#[derive(Drop)]
+#[derive(Clone, Copy)]
 pub struct Tables {
     pub received: [u32; 33],
     pub number: [u32; 256],

@@ -9,7 +9,7 @@ use replay_departures::{log, losses};
 use script::{Field, Said, print};
 use terms::Sizes;
 
-#[derive(Drop)]
+#[derive(Clone, Copy)]
 pub struct Done {
     pub connection: Connection,
     pub said: Said,
@@ -72,7 +72,7 @@ pub fn step(
 }
 
 // Whether an operation is to be performed; where it is not, what has become of its field.
-#[derive(Drop)]
+#[derive(Clone, Copy)]
 struct Next {
     goes: bool,
     said: Said,

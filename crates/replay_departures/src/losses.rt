@@ -9,7 +9,7 @@ use script::{print, record, turns};
 use serial::ItemId;
 
 // An end, and how many packets it has given up.
-#[derive(Drop)]
+#[derive(Clone, Copy)]
 pub struct Given {
     pub connection: Connection,
     pub count: usize,

@@ -10,14 +10,14 @@ use splitter::Split;
 use terms::Sizes;
 
 // F and C, 0 before they were given, and the number after the newest.
-#[derive(Drop)]
+#[derive(Clone, Copy)]
 pub struct State {
     pub fragment_size: usize,
     pub reassembly_slots: usize,
     pub sequence_num: PacketNumber,
 }
 
-#[derive(Drop)]
+#[derive(Clone, Copy)]
 pub struct Done {
     pub state: State,
     pub said: Said,

@@ -4,20 +4,20 @@ use script::{Said, print, turns};
 use serial::ItemId;
 use terms::Sizes;
 
-#[derive(Drop)]
+#[derive(Clone, Copy)]
 pub struct State {
     pub made: bool,
     pub stream: OrderingStream,
 }
 
-#[derive(Drop)]
+#[derive(Clone, Copy)]
 pub struct Done {
     pub state: State,
     pub said: Said,
 }
 
 // A stream, and how many items have come out of it.
-#[derive(Drop)]
+#[derive(Clone, Copy)]
 struct Handed {
     stream: OrderingStream,
     count: u64,

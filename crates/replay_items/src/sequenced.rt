@@ -3,13 +3,13 @@ use script::{Said, print};
 use sequencing::{Sequenced, SequencingStream};
 use serial::ItemId;
 
-#[derive(Drop)]
+#[derive(Clone, Copy)]
 pub struct State {
     pub made: bool,
     pub stream: SequencingStream,
 }
 
-#[derive(Drop)]
+#[derive(Clone, Copy)]
 pub struct Done {
     pub state: State,
     pub said: Said,

@@ -8,7 +8,7 @@ use script::{Field, Said, print};
 
 // The objects of the single modules: their counters and small tables, which go by value, and what has become of the last
 // field that they were given. First the sequence buffer and the sequencing stream.
-#[derive(Drop)]
+#[derive(Clone, Copy)]
 pub struct Numbers {
     pub buffer: buffer::State,
     pub slots: [u32; 64],
@@ -16,7 +16,7 @@ pub struct Numbers {
     pub said: Said,
 }
 
-#[derive(Drop)]
+#[derive(Clone, Copy)]
 pub struct Waiting {
     pub state: ordered::State,
     pub index: [u32; 64],
@@ -24,7 +24,7 @@ pub struct Waiting {
     pub said: Said,
 }
 
-#[derive(Drop)]
+#[derive(Clone, Copy)]
 pub struct Pieces {
     pub state: fragments::State,
     pub messages: [u32; 64],
@@ -33,7 +33,7 @@ pub struct Pieces {
     pub said: Said,
 }
 
-#[derive(Drop)]
+#[derive(Clone, Copy)]
 pub struct Packets {
     pub state: ack::State,
     pub received: [u32; 33],
@@ -43,7 +43,7 @@ pub struct Packets {
 }
 
 // All of them, and what has become of the last field.
-#[derive(Drop)]
+#[derive(Clone, Copy)]
 pub struct Modules {
     pub numbers: Numbers,
     pub waiting: Waiting,

@@ -6,13 +6,13 @@ use script::{Said, print, record, turns};
 use serial::{ItemId, PacketNumber};
 use terms::Sizes;
 
-#[derive(Drop)]
+#[derive(Clone, Copy)]
 pub struct State {
     pub made: bool,
     pub counters: Acknowledgment,
 }
 
-#[derive(Drop)]
+#[derive(Clone, Copy)]
 pub struct Done {
     pub state: State,
     pub said: Said,
@@ -284,7 +284,7 @@ fn after(before: Acknowledgment, answer: Processed) -> Acknowledgment {
 }
 
 // The numbers of a packet that comes.
-#[derive(Drop)]
+#[derive(Clone, Copy)]
 struct Heard {
     packet: PacketNumber,
     acked: PacketNumber,

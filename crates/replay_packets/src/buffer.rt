@@ -4,13 +4,13 @@ use sequence_buffer::{Inserted, Insertion, NONE};
 use serial::PacketNumber;
 
 // The number after the newest, and how many slots there are: 0 before a buffer was made.
-#[derive(Drop)]
+#[derive(Clone, Copy)]
 pub struct State {
     pub sequence_num: PacketNumber,
     pub size: usize,
 }
 
-#[derive(Drop)]
+#[derive(Clone, Copy)]
 pub struct Done {
     pub state: State,
     pub said: Said,
@@ -86,7 +86,7 @@ fn one_number(state: State, slots: &mut [u32], tag: u8, n: u16) -> Done {
 }
 
 // What a call answers: the state after it, and whether the number was inserted, there or removed.
-#[derive(Drop)]
+#[derive(Clone, Copy)]
 struct Answer {
     state: State,
     yes: bool,

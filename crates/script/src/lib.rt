@@ -7,7 +7,7 @@ pub mod record;
 pub mod turns;
 
 // What has become of a field: its tag is that of no module so far; it had its line; or its body has the wrong form.
-#[derive(Drop)]
+#[derive(Clone, Copy)]
 pub enum Said {
     Nothing,
     Line,
@@ -34,7 +34,7 @@ pub fn fits(form: usize, length: usize) -> bool {
 }
 
 // A field: the input has ended, or ends inside it; or its tag, and where its body starts and ends.
-#[derive(Drop)]
+#[derive(Clone, Copy)]
 pub enum Field {
     End,
     Cut,
@@ -45,7 +45,7 @@ pub enum Field {
 const LONGEST: usize = 65538;
 
 // What has been read and not been used lies from `from` to `to`; `ended` where there is no more to read.
-#[derive(Drop)]
+#[derive(Clone, Copy)]
 pub struct Window {
     pub from: usize,
     pub to: usize,

@@ -16,7 +16,7 @@ use serial::ItemId;
 use terms::Sizes;
 
 // The identifier of an item, and the streams once it has it.
-#[derive(Drop)]
+#[derive(Clone, Copy)]
 pub struct Identified {
     pub item: ItemId,
     pub ordering: OrderingStreams,

@@ -23,20 +23,20 @@ pub mod plan;
 
 // The datagram at the start of the output. The packet has the number where it is reliable; it is so many datagrams: one, or
 // its fragments, of which this is the first.
-#[derive(Drop)]
+#[derive(Clone, Copy)]
 pub struct Written {
     pub number: PacketNumber,
     pub datagrams: usize,
     pub length: usize,
 }
 
-#[derive(Drop)]
+#[derive(Clone, Copy)]
 pub enum Answer {
     Datagram(Written),
     Refused(Refusal),
 }
 
-#[derive(Drop)]
+#[derive(Clone, Copy)]
 pub struct Sent {
     pub end: End,
     pub answer: Answer,

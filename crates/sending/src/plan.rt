@@ -13,13 +13,13 @@ use serial::PacketNumber;
 use terms::{Refusal, Sizes};
 
 // The place in flight of a reliable item, and that of its stream where it has one.
-#[derive(Drop)]
+#[derive(Clone, Copy)]
 pub struct Sending {
     pub at: usize,
     pub stream: usize,
 }
 
-#[derive(Drop)]
+#[derive(Clone, Copy)]
 pub enum Plan {
     Refuse(Refusal),
     Send(Sending),

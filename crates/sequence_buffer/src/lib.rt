@@ -15,13 +15,13 @@ use serial::PacketNumber;
 pub const NONE: u32 = 4294967295;
 
 // What became of a number: too old, or it stands in a slot.
-#[derive(Drop)]
+#[derive(Clone, Copy)]
 pub enum Insertion {
     TooOld,
     At(usize),
 }
 
-#[derive(Drop)]
+#[derive(Clone, Copy)]
 pub struct Inserted {
     pub sequence_num: PacketNumber,
     pub insertion: Insertion,

@@ -7,7 +7,7 @@ ghost use Rattle.sequencing.specs.Sequence.{fresh, arranged, numbered};
 
 use serial::ItemId;
 
-#[derive(Drop)]
+#[derive(Clone, Copy)]
 pub struct SequencingStream {
     // The newest index seen.
     pub top_index: ItemId,
@@ -16,19 +16,19 @@ pub struct SequencingStream {
 }
 
 // What becomes of an item that has come.
-#[derive(Drop)]
+#[derive(Clone, Copy)]
 pub enum Sequenced {
     Out,
     Dropped,
 }
 
-#[derive(Drop)]
+#[derive(Clone, Copy)]
 pub struct AfterArrange {
     pub answer: Sequenced,
     pub stream: SequencingStream,
 }
 
-#[derive(Drop)]
+#[derive(Clone, Copy)]
 pub struct NewItem {
     pub item: ItemId,
     pub stream: SequencingStream,

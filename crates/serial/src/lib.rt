@@ -7,11 +7,11 @@ ghost use Rattle.serial.specs.Order.{greater, next, back};
 ghost use Rattle.serial.specs.Agreement.{AgreesWithRfc1982};
 
 // The number of a packet.
-#[derive(Drop)]
+#[derive(Clone, Copy)]
 pub struct PacketNumber(pub u16);
 
 // The number of an item among those of its stream. It never stands for a packet's.
-#[derive(Drop)]
+#[derive(Clone, Copy)]
 pub struct ItemId(pub u16);
 
 impl PacketNumber {

@@ -8,7 +8,7 @@ ghost use Rattle.splitter.specs.Split.{needed, pieces, split_of, Splits};
 use terms::{Refusal, Sizes};
 
 // A payload's number of pieces, or why it is not split.
-#[derive(Drop)]
+#[derive(Clone, Copy)]
 pub enum Split {
     Pieces(usize),
     Refused(Refusal),

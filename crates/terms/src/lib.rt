@@ -7,7 +7,7 @@ ghost use Rattle.terms.specs.Refusals.{number_of};
 ghost use Rattle.terms.specs.Sizes.{between, in_range};
 
 // Document 01, "Numbers that come back", in its order.
-#[derive(Drop)]
+#[derive(Clone, Copy)]
 pub enum Refusal {
     BadSizes,
     BadStorage,
@@ -46,14 +46,14 @@ pub fn number(refusal: Refusal) -> u8
 }
 
 // What a call of a user finds where it tries 1, 2 and 13 first.
-#[derive(Drop)]
+#[derive(Clone, Copy)]
 pub enum Gate {
     Open,
     Shut(Refusal),
 }
 
 // Document 01, "Sizes of a link". Any numbers may be given: those out of range are refused.
-#[derive(Drop)]
+#[derive(Clone, Copy)]
 pub struct Sizes {
     // F, the bytes of a fragment.
     pub fragment_size: usize,

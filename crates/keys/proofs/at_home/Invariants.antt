@@ -1,13 +1,6 @@
-use borrow.Author.Rules.{rules}
-use mathlib.Core.Path.{◌≡◌, refl}
-use mathlib.Core.Logic.{⊎_elim}
+use mathlib.Core.Path.{◌≡◌}
 use Prim.Native.Nat.{ℕ, ◌-◌, ◌%◌, ◌<◌, ◌≤◌}
-use native.Mathlib.Nat.{not-suc-le-zero}
-use native.Mathlib.Omega.{arith}
-use borrow.Author.Count.{below_more}
 use lib.ListN.{length, get_or}
-use Rattle.laws.proofs.Cases.{both}
-use Rattle.keys.proofs.Homes.{home_once}
 use Rattle.keys.proofs.at_home.Given as goal
 
 abbrev pub invariant-loop-i : goal.invariant-loop-i

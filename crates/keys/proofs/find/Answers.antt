@@ -1,9 +1,6 @@
-use borrow.Author.Rules.{rules}
 use mathlib.Core.Path.{◌≡◌}
-use Prim.Native.Nat.{◌+◌, ◌-◌, ◌≤◌}
 use native.Mathlib.Omega.{arith}
-use lib.ListN.{length, get_or, drop}
-use Rattle.keys.specs.Keys.{first_place}
+use lib.ListN.{get_or}
 use Rattle.keys.proofs.Places.{first_here, first_past, first_end}
 use Rattle.keys.proofs.find.Goals as goal
 

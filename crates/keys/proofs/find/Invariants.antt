@@ -1,10 +1,7 @@
-use borrow.Author.Rules.{rules}
 use mathlib.Core.Path.{◌≡◌}
 use Prim.Native.Nat.{◌+◌, ◌-◌, ◌≤◌}
-use native.Mathlib.Omega.{arith}
-use lib.ListN.{length, get_or, drop}
+use lib.ListN.{length, drop}
 use Rattle.keys.specs.Keys.{first_place}
-use Rattle.keys.proofs.Places.{first_here, first_past, first_end}
 use Rattle.keys.proofs.find.Given as goal
 
 abbrev pub invariant-loop-i : goal.invariant-loop-i

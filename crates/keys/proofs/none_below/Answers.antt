@@ -1,8 +1,7 @@
 -- What is left of the bits is at most each entry passed.
-use borrow.Author.Rules.{rules}
 use native.Mathlib.Nat.{not-suc-le-zero}
 use native.Mathlib.Omega.{arith}
-use Prim.Native.Nat.{ℕ, ◌+◌, ◌-◌, ◌≤◌, ◌<◌}
+use Prim.Native.Nat.{ℕ, ◌+◌, ◌≤◌}
 use lib.Bits.{and_le_l, and_le_r}
 use lib.ListN.{get_or}
 use borrow.Author.Count.{below_more}

@@ -1,11 +1,5 @@
-use borrow.Author.Rules.{rules}
-use native.Mathlib.Nat.{not-suc-le-zero}
-use native.Mathlib.Omega.{arith}
 use Prim.Native.Nat.{ℕ, ◌+◌, ◌-◌, ◌≤◌, ◌<◌}
-use lib.Bits.{and_le_l, and_le_r}
 use lib.ListN.{get_or}
-use borrow.Author.Count.{below_more}
-use borrow.Author.Tests.{leb-true}
 use Rattle.keys.proofs.none_below.Given as goal
 
 abbrev pub invariant-loop-k : goal.invariant-loop-k

@@ -1,12 +1,5 @@
-use borrow.Author.Rules.{rules}
-use mathlib.Core.Path.{◌≡◌, refl}
-use mathlib.Core.Logic.{⊎_elim}
 use Prim.Native.Nat.{ℕ, ◌-◌, ◌<◌, ◌≤◌}
-use native.Mathlib.Omega.{arith}
-use borrow.Author.Count.{below_more}
 use lib.ListN.{length, get_or}
-use Rattle.laws.proofs.Cases.{both, lt_or_le}
-use Rattle.keys.proofs.Twice.{all_apart}
 use Rattle.keys.proofs.rising.Given as goal
 
 abbrev pub invariant-loop-i : goal.invariant-loop-i

@@ -1,5 +1,5 @@
 -- Each way out has the tests that led there; `half` says what the first half of the `||` is where its ways meet.
-use Rattle.std.proofs.Common.{◌≡◌, ◌-◌, ◌&&◌, ltb, leb, ◌∙◌, ⊎_elim, rules, le-ltb, lt-ltb}
+use Rattle.std.proofs.Common.{◌≡◌, ◌-◌, ◌&&◌, ltb, leb, ◌∙◌, ⊎_elim, le-ltb, lt-ltb}
 use Rattle.serial.specs.Order.{greater}
 use Rattle.serial.proofs.sequence_greater_than.Goals as goal
 use Rattle.serial.proofs.sequence_greater_than.Goals.{Joined-a-b}

@@ -1,5 +1,5 @@
 -- Where what is odd of all the entries passed is nothing, so it is of each.
-use Rattle.std.proofs.Common.{◌≡◌, ℕ, ◌+◌, ◌-◌, ◌%◌, ◌<◌, ◌≤◌, true, ltb, get_or, sym, subst, arith, rules, below_more, ltb-true, eqb-true}
+use Rattle.std.proofs.Common.{◌≡◌, ℕ, ◌+◌, ◌%◌, ◌<◌, true, ltb, get_or, sym, subst, arith, below_more, ltb-true, eqb-true}
 use Rattle.key_parts.specs.Laps.{InLap, Lapped}
 use Rattle.key_parts.proofs.Lapped.{or_parts, lapped, lapped_once}
 use Rattle.key_parts.proofs.laps.is_lapped.Goals as goal

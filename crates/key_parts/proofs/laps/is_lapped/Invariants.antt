@@ -1,6 +1,5 @@
-use Rattle.std.proofs.Common.{◌≡◌, ℕ, ◌+◌, ◌-◌, ◌%◌, ◌<◌, ◌≤◌, true, ltb, get_or, sym, subst, arith, rules, below_more, ltb-true, eqb-true}
-use Rattle.key_parts.specs.Laps.{InLap, Lapped}
-use Rattle.key_parts.proofs.Lapped.{or_parts, lapped, lapped_once}
+use Rattle.std.proofs.Common.{◌≡◌, ℕ, ◌+◌, ◌-◌, ◌%◌, ◌<◌, ◌≤◌, get_or}
+use Rattle.key_parts.specs.Laps.{InLap}
 use Rattle.key_parts.proofs.laps.is_lapped.Given as goal
 
 abbrev pub invariant-loop-k : goal.invariant-loop-k

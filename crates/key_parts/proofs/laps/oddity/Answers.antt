@@ -1,5 +1,5 @@
 -- Where the word and its fifth shift differ in no low bit and in no high one, it is 33 times the shift.
-use Rattle.std.proofs.Common.{◌/◌, arith, rules}
+use Rattle.std.proofs.Common.{◌/◌, arith}
 use Rattle.key_parts.proofs.Lapped.{laps_of}
 use Rattle.key_parts.proofs.laps.oddity.Goals as goal
 

@@ -1,5 +1,4 @@
-use Rattle.std.proofs.Common.{ℕ, ◌+◌, ◌-◌, ◌<◌, ◌≤◌, get_or, not-suc-le-zero, arith, rules, below_more, leb-true}
-use lib.Bits.{and_le_l, and_le_r}
+use Rattle.std.proofs.Common.{ℕ, ◌+◌, ◌-◌, ◌<◌, ◌≤◌, get_or}
 use Rattle.key_parts.specs.Words.{no_packet, Placed}
 use Rattle.key_parts.proofs.parts.in_step.Given as goal
 

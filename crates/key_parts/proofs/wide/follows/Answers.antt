@@ -1,7 +1,7 @@
 -- Where the bits left are no key, neither is what was kept of any entry passed.
-use Rattle.std.proofs.Common.{◌≡◌, ℕ, ◌+◌, ◌-◌, ◌*◌, ◌/◌, ◌<◌, ◌≤◌, get_or, subst, not-suc-le-zero, arith, rules, below_more, leb-true}
+use Rattle.std.proofs.Common.{◌≡◌, ℕ, ◌+◌, ◌/◌, get_or, subst, not-suc-le-zero, arith, below_more, leb-true}
 use lib.Bits.{and_le_l, and_le_r}
-use Rattle.key_parts.specs.Words.{no_packet, Word}
+use Rattle.key_parts.specs.Words.{Word}
 use Rattle.key_parts.proofs.wide.follows.Goals as goal
 
 pub loop-k-init : goal.loop-k-init

@@ -1,5 +1,4 @@
-use Rattle.std.proofs.Common.{◌≡◌, ℕ, ◌+◌, ◌-◌, ◌*◌, ◌/◌, ◌<◌, ◌≤◌, get_or, subst, not-suc-le-zero, arith, rules, below_more, leb-true}
-use lib.Bits.{and_le_l, and_le_r}
+use Rattle.std.proofs.Common.{◌≡◌, ℕ, ◌+◌, ◌-◌, ◌*◌, ◌<◌, ◌≤◌, get_or}
 use Rattle.key_parts.specs.Words.{no_packet, Word}
 use Rattle.key_parts.proofs.wide.follows.Given as goal
 

@@ -1,5 +1,5 @@
 -- What is left of the bits is at most each entry passed.
-use Rattle.std.proofs.Common.{ℕ, ◌+◌, ◌-◌, ◌<◌, ◌≤◌, get_or, not-suc-le-zero, arith, rules, below_more, leb-true}
+use Rattle.std.proofs.Common.{ℕ, ◌+◌, ◌≤◌, get_or, not-suc-le-zero, arith, below_more, leb-true}
 use lib.Bits.{and_le_l, and_le_r}
 use Rattle.key_parts.proofs.wide.none_in.Goals as goal
 

@@ -1,6 +1,6 @@
 -- What differs is a packet's word below 2^31, and `room` less is below that too unless it is at most `room`: then it has no number,
 -- so the numbers do not differ, and it is the length. A multiple of 64 and a place below 64 have no bit in common.
-use Rattle.std.proofs.Common.{◌≡◌, ℕ, ◌+◌, ◌*◌, ◌/◌, ◌%◌, ◌<◌, ◌≤◌, sym, ap, ◌∙◌, ap₂, inl, mod-lt, div-add-mod', zero-add, arith, rules}
+use Rattle.std.proofs.Common.{◌≡◌, ℕ, ◌+◌, ◌*◌, ◌/◌, ◌%◌, ◌<◌, ◌≤◌, sym, ap, ◌∙◌, ap₂, inl, mod-lt, div-add-mod', zero-add, arith}
 use lib.Bits.{bit_xor, xor_block, xor_lt, xor_zero_r, xor_shr, xor_mod}
 use Rattle.laws.proofs.Bits.{xor_none}
 use Rattle.key_parts.proofs.wide.without.Goals as goal

@@ -1,12 +1,7 @@
-use borrow.Author.Rules.{rules}
-use mathlib.Core.Path.{◌≡◌, sym, ap, ◌∙◌}
-use mathlib.Core.Logic.{⊎_elim}
-use Prim.Native.Nat.{ℕ, ◌-◌, ◌*◌, ◌/◌, ◌%◌, ◌^◌, ◌<◌, ◌≤◌}
-use native.Mathlib.Omega.{arith}
-use borrow.Author.Tests.{eq-eqb, ne_eqb}
-use lib.Bits.{bit_or}
-use lib.ListN.{length, get_or, length-replicate, length-set}
-use Rattle.keys.proofs.KeySet.{mark, Seen, Single, seen_none, seen_key, seen_other, seen_bit, single_none, single_more, single_all, again}
+use mathlib.Core.Path.{◌≡◌}
+use Prim.Native.Nat.{◌-◌, ◌≤◌}
+use lib.ListN.{length}
+use Rattle.keys.proofs.KeySet.{Seen, Single}
 use Rattle.keys.proofs.marks.has_twice.Given as goal
 
 abbrev pub invariant-loop-i : goal.invariant-loop-i

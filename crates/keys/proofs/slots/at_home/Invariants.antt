@@ -1,13 +1,6 @@
-use borrow.Author.Rules.{rules}
-use mathlib.Core.Path.{◌≡◌, sym, subst}
+use mathlib.Core.Path.{◌≡◌}
 use Prim.Native.Nat.{ℕ, ◌-◌, ◌%◌, ◌≤◌, ◌<◌}
-use native.Mathlib.Nat.{not-suc-le-zero}
-use native.Mathlib.Omega.{arith}
-use lib.Bits.{and_le_l, and_le_r}
 use lib.ListN.{get_or}
-use borrow.Author.Count.{below_more}
-use borrow.Author.Tests.{leb-true}
-use Rattle.keys.proofs.Homes.{home_once}
 use Rattle.keys.proofs.slots.at_home.Given as goal
 
 abbrev pub invariant-loop-k : goal.invariant-loop-k

@@ -1,5 +1,3 @@
-use borrow.Author.Rules.{rules}
-use Rattle.laws.proofs.Cases.{on, off}
 use Rattle.terms.specs.Sizes.{in_range}
 use Rattle.terms.proofs.Sizes.in_range.Goals as goal
 
