@@ -16,7 +16,7 @@ use Rattle.keys.proofs.Twice.{all_apart}
 use Rattle.terms.specs.Sizes.{in_range}
 use Rattle.terms.specs.declared.Sizes.{Sizes}
 use Rattle.terms.proofs.Ranges.{in_range_means}
-use Rattle.sequence_buffer.specs.Buffer.{none as noNumber, fresh, emptied, inserted_slots}
+use Rattle.sequence_buffer.specs.Buffer.{none as no_number, fresh, emptied, inserted_slots}
 use Rattle.sequence_buffer.proofs.Held.{length_inserted}
 use Rattle.sequence_buffer.proofs.Home.{Home, home_apart, home_inserted}
 use Rattle.received.specs.Record.{slot_count, slots_of, recorded}
@@ -140,7 +140,7 @@ module _ (z : Sizes) (s : State) (r : in_range z ≡ true) (g : Good z s) where
   pub good_drop : (d : Dropped) → Good z (lending s.counters s.received (number_left (OneDrop d) (table_of z s.number) ++ drop n s.number) s.records s.bytes)
   good_drop d =
       let l = g.lengths in
-      let q = fronted n (number_left (OneDrop d) (table_of z s.number)) (drop n s.number) (length-set (table_of z s.number) (first_place d.number.0 (numbers_in (table_of z s.number))) noNumber ∙ whole z s g) in
+      let q = fronted n (number_left (OneDrop d) (table_of z s.number)) (drop n s.number) (length-set (table_of z s.number) (first_place d.number.0 (numbers_in (table_of z s.number))) no_number ∙ whole z s g) in
       record {
         lengths = record { slots = l.slots; numbers = q.1; recorded = l.recorded; room = l.room };
         home = g.home;
@@ -168,15 +168,15 @@ good_after z s (drops output ∷ calls) r (with_drops t) g =
     good_after z (called z s (drops output)) calls r t (good_drops z s r g output)
 
 -- a fresh column has no number
-empty : (n b i : ℕ) → n ≤ b → i < n → get_or (take n (fresh b)) i 0 ≡ noNumber
-empty n b i h l = get_or-take n (fresh b) i 0 l ∙ get_or-replicate b i noNumber 0 (omega arith)
+empty : (n b i : ℕ) → n ≤ b → i < n → get_or (take n (fresh b)) i 0 ≡ no_number
+empty n b i h l = get_or-take n (fresh b) i 0 l ∙ get_or-replicate b i no_number 0 (omega arith)
 
 module _ (z : Sizes) (a b : ℕ) (records bytes : List ℕ) (r : in_range z ≡ true) (e : is_lent z (fresh_end a b records bytes) ≡ true) where
   lens : Lent z (fresh a) (fresh b) records bytes
   lens = lent_means z (fresh a) (fresh b) records bytes e
 
-  none_sent : (i : ℕ) → i < z.packets_in_flight → get_or (table_of z (fresh b)) i 0 ≡ noNumber
-  none_sent i h = empty z.packets_in_flight b i (omega (arith, lens.numbers, length-replicate b noNumber)) h
+  none_sent : (i : ℕ) → i < z.packets_in_flight → get_or (table_of z (fresh b)) i 0 ≡ no_number
+  none_sent i h = empty z.packets_in_flight b i (omega (arith, lens.numbers, length-replicate b no_number)) h
 
   table_long : length (table_of z (fresh b)) ≡ z.packets_in_flight
   table_long = length-take-le z.packets_in_flight (fresh b) lens.numbers
@@ -190,7 +190,7 @@ module _ (z : Sizes) (a b : ℕ) (records bytes : List ℕ) (r : in_range z ≡ 
         lengths = l;
         home = record {
           long = length-take-le slot_count (fresh a) l.slots;
-          own = λ i h key. absurd (omega (arith, key, empty slot_count a i (omega (arith, l.slots, length-replicate a noNumber)) h));
+          own = λ i h key. absurd (omega (arith, key, empty slot_count a i (omega (arith, l.slots, length-replicate a no_number)) h));
         };
         flying = record {
           some_place = omega (arith, long, n);

@@ -11,7 +11,7 @@ use Rattle.keys.specs.Keys.{twice}
 use Rattle.terms.specs.declared.Sizes.{Sizes}
 use Rattle.received.specs.Record.{slot_count, slots_of}
 use Rattle.flight.specs.Entry.{numbers_in}
-use Rattle.flight.specs.Places.{over_long, sound as flightSound}
+use Rattle.flight.specs.Places.{over_long, sound as flight_sound}
 use Rattle.acks.specs.State.{table_of, slot_of}
 use Rattle.terms.specs.Sizes.{in_range}
 use Rattle.terms.specs.declared.Refusal.{Refusal}
@@ -50,7 +50,7 @@ pub record Sound (z : Sizes) (received number : List ℕ) : Type 0 where
   pub once_sent : twice (numbers_in (table_of z number)) ≡ false
 
 pub sound_means : (z : Sizes) (received number : List ℕ) → sound z received number ≡ true → Sound z received number
-unfolding sound flightSound
+unfolding sound flight_sound
 sound_means z received number e =
     let p = each (not (twice (slots_of received))) (not (over_long (slot_of z) (table_of z number)) && not (twice (numbers_in (table_of z number)))) e in
     let q = each (not (over_long (slot_of z) (table_of z number))) (not (twice (numbers_in (table_of z number)))) p.1 in

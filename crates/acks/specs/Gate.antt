@@ -7,7 +7,7 @@ use Rattle.terms.specs.declared.Refusal.{Refusal}
 use Rattle.terms.specs.declared.Refusal.TheVariants.{BadSizes, BadStorage, BadState}
 use Rattle.received.specs.Record.{slot_count, slots_of}
 use Rattle.flight.specs.declared.SentPacket.{SentPacket}
-use Rattle.flight.specs.Places.{sound as flightSound}
+use Rattle.flight.specs.Places.{sound as flight_sound}
 use Rattle.acks.specs.State.{table_of, slot_of}
 
 -- not 2: "N x 16 x F in flight", and the columns
@@ -20,7 +20,7 @@ lent z received number records bytes =
 
 -- not 13: no length is over its slot, and no packet number is twice in flight or received
 unfoldable pub sound : Sizes → List ℕ → List ℕ → Bool
-sound z received number = not (twice (slots_of received)) && flightSound (slot_of z) (table_of z number)
+sound z received number = not (twice (slots_of received)) && flight_sound (slot_of z) (table_of z number)
 
 -- 1, 2, 13, and then what the call says
 abbrev pub gated : {A : Type 0} → Sizes → Bool → Bool → (Refusal → A) → A → A

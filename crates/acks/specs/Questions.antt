@@ -6,7 +6,7 @@ use Rattle.terms.specs.declared.Sizes.{Sizes}
 use Rattle.received.specs.Record.{slot_count, slots_of}
 use Rattle.received.specs.Field.{field_of}
 use Rattle.flight.specs.Entry.{numbers_in}
-use Rattle.flight.specs.Places.{count_of, sound as flightSound}
+use Rattle.flight.specs.Places.{count_of, sound as flight_sound}
 use Rattle.acks.specs.State.{table_of, slot_of}
 use Rattle.acks.specs.Gate.{flight_lent, gated}
 use Rattle.acks.specs.declared.Acknowledgment.{Acknowledgment}
@@ -27,7 +27,7 @@ number_of_told (NotTold why) = number_of why
 -- how many packets are in flight
 unfoldable pub counted_of : Sizes → List ℕ → List ℕ → InFlight
 counted_of z number records =
-    gated z (flight_lent z number records) (flightSound (slot_of z) (table_of z number)) NotCounted
+    gated z (flight_lent z number records) (flight_sound (slot_of z) (table_of z number)) NotCounted
     (Packets (count_of (numbers_in (table_of z number))))
 
 -- the field

@@ -4,7 +4,7 @@ ghost use Rattle.received.specs.Record.{slot_count, slots_of, KnownLapped};
 ghost use Rattle.keys.specs.Keys.{twice};
 ghost use Rattle.terms.specs.Sizes.{in_range};
 ghost use Rattle.flight_home.specs.AtHome.{AtHome};
-ghost use Rattle.flight.specs.Places.{sound as flightSound};
+ghost use Rattle.flight.specs.Places.{sound as flight_sound};
 ghost use Rattle.acks.specs.Gate.{sound};
 ghost use Rattle.acks.specs.State.{table_of, slot_of};
 
@@ -58,7 +58,7 @@ pub fn is_record_sound(received: &[u32], lapped: bool) -> bool
 // Not 13 of the packets in flight, which holds at home. Requires sizes in range, and columns as long as stated.
 pub fn is_flight_sound(sizes: Sizes, number: &[u32], at_home: bool) -> bool
     requires { (in_range sizes ≡ true) × (sizes.packets_in_flight ≤ length number.now) × (at_home ≡ true → AtHome (slot_of sizes) (table_of sizes number.now)) }
-    ensures { result ≡ flightSound (slot_of sizes) (table_of sizes number.now) }
+    ensures { result ≡ flight_sound (slot_of sizes) (table_of sizes number.now) }
 {
     if at_home {
         return true;

@@ -21,7 +21,7 @@ use Rattle.packet_table.specs.declared.OrderingGuarantee.TheVariants.{None, Sequ
 use Rattle.packet.specs.declared.Read.{Read}
 use Rattle.packet.specs.declared.Read.TheVariants.{Found, Refused as Unread}
 use Rattle.ordering.specs.Take.{next_of}
-use Rattle.ordering_plan.specs.Arrange.{plan_of as itemPlan}
+use Rattle.ordering_plan.specs.Arrange.{plan_of as item_plan}
 use Rattle.ordering_plan.specs.declared.OrderingStream.{OrderingStream}
 use Rattle.ordering_plan.specs.declared.Arranged.{Arranged}
 use Rattle.ordering_plan.specs.declared.Arranged.TheVariants.{Out as GoesOut, Held as IsHeld, Old as IsOld, Refused as IsRefused}
@@ -35,7 +35,7 @@ use Rattle.ends.specs.State.{State}
 use Rattle.ends.specs.Gate.{gate_of}
 use Rattle.receiving_plan.specs.Plan.{sequenced_plan, ordered_as, plan_by, plan_of}
 use Rattle.receiving.specs.Receive.{packet_as, by_type, read_as, received_of}
-use Rattle.sending.specs.Plan.{plan_of as sendPlan}
+use Rattle.sending.specs.Plan.{plan_of as send_plan}
 use Rattle.sending.specs.Send.{transmitted_as, transmitted_of}
 use Rattle.datagrams.specs.declared.Item.{Item}
 use Rattle.sending.specs.declared.plan.Sending.{Sending}
@@ -67,7 +67,7 @@ module _ (z : Sizes) (id : ℕ) (r : State) (k : Kept z r) where
     I = h.arranging.stream
 
     arranged-left : (free : place_of r.ordered.counters.known I < 4) → (id ≡ I → ⊥) → (a : Arranged)
-        → itemPlan (stream_at r.ordered.counters (place_of r.ordered.counters.known I)) (part r.ordered.index (place_of r.ordered.counters.known I * 64) 64) h.arranging.index.0 ≡ a
+        → item_plan (stream_at r.ordered.counters (place_of r.ordered.counters.known I)) (part r.ordered.index (place_of r.ordered.counters.known I * 64) 64) h.arranging.index.0 ≡ a
         → Left (packet_as (ordered_as a (record { at = place_of r.ordered.counters.known I; plan = a })) z h payload r output).end.ordered
     arranged-left free other GoesOut e = other_seen f r.ordered k.ordered.whole I free _ (arranged_fits f r.ordered k.ordered.whole _ free h.arranging.index.0 payload short GoesOut e) id other
     arranged-left free other (IsHeld j) e = other_seen f r.ordered k.ordered.whole I free _ (arranged_fits f r.ordered k.ordered.whole _ free h.arranging.index.0 payload short (IsHeld j) e) id other
@@ -84,7 +84,7 @@ module _ (z : Sizes) (id : ℕ) (r : State) (k : Kept z r) where
         (λ q.
         rw q
         (arranged-left (one_of_four r.ordered.counters.known (ids_of f r.ordered k.ordered.whole) I q) (λ g. ne e (sym g))
-        (itemPlan (stream_at r.ordered.counters (place_of r.ordered.counters.known I)) (part r.ordered.index (place_of r.ordered.counters.known I * 64) 64) h.arranging.index.0) refl))
+        (item_plan (stream_at r.ordered.counters (place_of r.ordered.counters.known I)) (part r.ordered.index (place_of r.ordered.counters.known I * 64) 64) h.arranging.index.0) refl))
 
   module _ (d output : List ℕ) (beyond : Beyond z.version id d) where
     by_type_lem : (t : PacketType) (h : Headers) (payload : List ℕ) → length payload ≤ z.fragment_size
@@ -153,9 +153,9 @@ module _ (z : Sizes) (id : ℕ) (r : State) (k : Kept z r) where
 
     pub transmitted-stays : Stays (transmitted_of z r i payload output).end.ordered
     unfolding transmitted_of
-    transmitted-stays = go (sendPlan z r.acks.counters.sequence_number.0 r.ordered.counters r.sequenced (table_of z r.acks.number) i (length payload)) refl
+    transmitted-stays = go (send_plan z r.acks.counters.sequence_number.0 r.ordered.counters r.sequenced (table_of z r.acks.number) i (length payload)) refl
       where
-        go : (p : Plan) → sendPlan z r.acks.counters.sequence_number.0 r.ordered.counters r.sequenced (table_of z r.acks.number) i (length payload) ≡ p
+        go : (p : Plan) → send_plan z r.acks.counters.sequence_number.0 r.ordered.counters r.sequenced (table_of z r.acks.number) i (length payload) ≡ p
             → Stays (transmitted_of z r i payload output).end.ordered
         go (Refuse why) e = rw e (stays r.ordered (same r.ordered refl))
         go (Send q) e = rw e (by_order i.ordering refl q (allowed z r i (length payload) q e))

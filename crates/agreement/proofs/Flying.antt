@@ -16,11 +16,11 @@ use Rattle.keys.specs.Keys.{first_place}
 use Rattle.terms.specs.Sizes.{in_range}
 use Rattle.terms.specs.declared.Sizes.{Sizes}
 use Rattle.terms.proofs.Ranges.{in_range_means}
-use Rattle.sequence_buffer.specs.Buffer.{none as noNumber, emptied}
+use Rattle.sequence_buffer.specs.Buffer.{none as no_number, emptied}
 use Rattle.flight.specs.Entry.{word_of, numbers_in, packed, length_of, bytes_at}
 use Rattle.flight.specs.Places.{place_of, full}
 use Rattle.flight.specs.Acked.{is_acked, is_told}
-use Rattle.flight.specs.Lost.{is_lost, least_lost, number_left, drop_of as lostOf}
+use Rattle.flight.specs.Lost.{is_lost, least_lost, number_left, drop_of as lost_of}
 use Rattle.flight.specs.View.{Flight, Sent as Entry, view, Fits}
 use Rattle.flight.specs.declared.SentPacket.{SentPacket}
 use Rattle.flight.specs.declared.lost.Dropped.{Dropped}
@@ -97,7 +97,7 @@ module _ (z : Sizes) (s : Acks) (range : in_range z ≡ true) (g : Good z s) whe
         ∙ facts.stored_view room fl local sent payload g.flying g.next fits roomy m h
 
   -- one is given up
-  module _ (d : Dropped) (remote : ℕ) (e : lostOf remote (table_of z s.number) s.records ≡ OneDrop d) where
+  module _ (d : Dropped) (remote : ℕ) (e : lost_of remote (table_of z s.number) s.records ≡ OneDrop d) where
     pub lost-word : d.number.0 < 65536
     unfolding is_lost
     lost-word = ltb-true d.number.0 65536 (each (ltb d.number.0 65536) _ (facts.lost fl remote d e)).0
@@ -105,7 +105,7 @@ module _ (z : Sizes) (s : Acks) (range : in_range z ≡ true) (g : Good z s) whe
     left-table : table_of z (number_left (OneDrop d) (table_of z s.number) ++ drop N s.number) ≡ number_left (OneDrop d) (table_of z s.number)
     left-table =
         take_at (number_left (OneDrop d) (table_of z s.number)) (drop N s.number) N
-        (length-set (table_of z s.number) (first_place d.number.0 (numbers_in (table_of z s.number))) noNumber ∙ table_length)
+        (length-set (table_of z s.number) (first_place d.number.0 (numbers_in (table_of z s.number))) no_number ∙ table_length)
 
     pub dropped_keeps : (m : ℕ) (x : Entry) → m < 65536
         → view (slot_of z) (record { number = table_of z (number_left (OneDrop d) (table_of z s.number) ++ drop z.packets_in_flight s.number); records = s.records; bytes = s.bytes }) m ≡ some x

@@ -17,16 +17,16 @@ use Rattle.terms.specs.declared.Sizes.{Sizes}
 use Rattle.terms.proofs.Ranges.{in_range_means}
 use Rattle.terms.specs.declared.Gate.{Gate}
 use Rattle.terms.specs.declared.Gate.TheVariants.{Open, Shut}
-use Rattle.sequence_buffer.specs.Buffer.{none as noNumber}
+use Rattle.sequence_buffer.specs.Buffer.{none as no_number}
 use Rattle.flight.specs.Entry.{numbers_in, length_of, bytes_at}
-use Rattle.flight.specs.Lost.{drop_of as lostOf}
+use Rattle.flight.specs.Lost.{drop_of as lost_of}
 use Rattle.flight.specs.View.{Sent as Entry, view}
 use Rattle.flight.specs.declared.SentPacket.{SentPacket}
 use Rattle.flight.specs.declared.lost.Dropped.{Dropped as Given}
 use Rattle.flight.specs.declared.lost.Drop.{Drop}
 use Rattle.flight.specs.declared.lost.Drop.TheVariants.{Nothing as NoLoss, Packet as OneLoss}
 use Rattle.flight.proofs.Viewed.{seen as seen_at, unseen, word_at}
-use Rattle.flight.proofs.Words.{no_number as noNumberIn}
+use Rattle.flight.proofs.Words.{no_number as no_number_in}
 use Rattle.acks.specs.State.{State as Acks, table_of, slot_of}
 use Rattle.acknowledgment.specs.Calls.{answered_by, output_kept}
 use Rattle.acknowledgment.specs.declared.DroppedPackets.{DroppedPackets}
@@ -65,7 +65,7 @@ use Rattle.datagrams.specs.declared.further.Further.TheVariants.{Datagram as Fra
 use Rattle.link_incoming.specs.Calls.{receive_of, take_of}
 use Rattle.link_outgoing.specs.Calls.{send_of, resend_of, item_again, fragment_of, fragment_output}
 use Rattle.link.specs.Calls.{drop_of, drop_output}
-use Rattle.link_laws.specs.Calls.{Call, receives, takes as takesOn, sends as sendsOn, resends as resendsOn, writes as writesOn, drops as dropsOn, asks, dropped, called}
+use Rattle.link_laws.specs.Calls.{Call, receives, takes as takes_on, sends as sends_on, resends as resends_on, writes as writes_on, drops as drops_on, asks, dropped, called}
 use Rattle.link_laws.specs.Never.{New}
 use Rattle.link_laws.proofs.Kept.{Kept, stays_open, kept_new}
 use Rattle.link_laws.proofs.Unbroken.{next_narrow, again_narrow, kept_receives, kept_takes, kept_sends, kept_resends, kept_drops}
@@ -75,7 +75,7 @@ use Rattle.agreement.specs.Events.{on_stream}
 use Rattle.agreement.specs.Agreement.{Lent, Beside}
 use Rattle.agreement.proofs.Promises.{Mine, Other, Went, Passed, Loose, Quiet, Same, Promises}
 use Rattle.agreement.proofs.Streams.{seen, Equal, none_held}
-use Rattle.agreement.proofs.ByteLists.{taken, dropped as droppedBytes, whole}
+use Rattle.agreement.proofs.ByteLists.{taken, dropped as dropped_bytes, whole}
 use Rattle.agreement.proofs.Wire.{Beyond}
 use Rattle.agreement.proofs.Views.{Ok, views}
 use Rattle.agreement.proofs.Receiver.{lands, few_held, same_ordered}
@@ -95,8 +95,8 @@ module _ (z : Sizes) (s : State) (o : List ℕ) (new : New z s o) (id : ℕ) whe
       let no-streams : s.ordered.counters.known.made ≡ 0 = ap (λ (e : End). e.ordering.known.made) new.counters in
       fresh_at s.ordered.counters (place_of s.ordered.counters.known stream) (omega arith)
 
-  no_number : (m : ℕ) → m < 65536 → view (slot_of z) (flight_of z s.acks) m ≡ none
-  no_number m h =
+  no_number_lem : (m : ℕ) → m < 65536 → view (slot_of z) (flight_of z s.acks) m ≡ none
+  no_number_lem m h =
       let table = table_of z s.acks.number in
       let at = first_place m (numbers_in table) in
       unseen (slot_of z) (flight_of z s.acks) m
@@ -104,10 +104,10 @@ module _ (z : Sizes) (s : State) (o : List ℕ) (new : New z s o) (id : ℕ) whe
       (λ (l : first_place m (numbers_in (table_of z s.acks.number)) < length (table_of z s.acks.number)).
       let long = length-take-le z.packets_in_flight s.acks.number (kept_new z s o new).acks.lengths.numbers in
       let was = get_or-take z.packets_in_flight s.acks.number at 0 (omega arith) in
-      let is : get_or s.acks.number (first_place m (numbers_in (table_of z s.acks.number))) 0 ≡ noNumber =
+      let is : get_or s.acks.number (first_place m (numbers_in (table_of z s.acks.number))) 0 ≡ no_number =
       ap (λ (t : List ℕ). get_or t at 0) new.none_in_flight
-      ∙ get_or-replicate (length s.acks.number) at noNumber 0 (let y = (kept_new z s o new).acks.lengths.numbers in omega arith) in
-      absurd (omega (arith, word_at m table l, noNumberIn (get_or table at 0) (omega arith))))
+      ∙ get_or-replicate (length s.acks.number) at no_number 0 (let y = (kept_new z s o new).acks.lengths.numbers in omega arith) in
+      absurd (omega (arith, word_at m table l, no_number_in (get_or table at 0) (omega arith))))
       (λ (l : length (table_of z s.acks.number) ≤ first_place m (numbers_in (table_of z s.acks.number))). l)
       (lt_or_le (first_place m (numbers_in (table_of z s.acks.number))) (length (table_of z s.acks.number))))
 
@@ -135,23 +135,23 @@ two_byte n h =
     case (eqb n 1) (λ b. rw (a, b) (λ e. absurd (let z : ◌≡◌ {A = ℕ} 0 1 = cc in omega arith)))
     (λ b. rw (a, b) (λ e. let x = leb-false 3 n h in let y = eqb-false n 0 a in let w = eqb-false n 1 b in omega arith)))
 
-lost_of : (x : Drop) (d : Given) → answered_by x ≡ OneDrop d → x ≡ OneLoss d
-lost_of NoLoss d e = absurd (let z : ◌≡◌ {A = ℕ} 0 1 = cc in omega arith)
-lost_of (OneLoss y) d e = cc
+lost_of_lem : (x : Drop) (d : Given) → answered_by x ≡ OneDrop d → x ≡ OneLoss d
+lost_of_lem NoLoss d e = absurd (let z : ◌≡◌ {A = ℕ} 0 1 = cc in omega arith)
+lost_of_lem (OneLoss y) d e = cc
 
 fragment_inj : {a b : ℕ} → Fragment a ≡ Fragment b → a ≡ b
 fragment_inj e = cc
 
 -- a drop that is given comes from a lost packet
 dropped_from : (z : Sizes) (s : State) (output : List ℕ) (d : Given) → drop_of z s output ≡ OneDrop d
-    → lostOf s.acks.counters.remote_ack_sequence_num.0 (table_of z s.acks.number) s.acks.records ≡ OneLoss d
+    → lost_of s.acks.counters.remote_ack_sequence_num.0 (table_of z s.acks.number) s.acks.records ≡ OneLoss d
 unfolding drop_of
 dropped_from z s output d = go (gate_of z s output) refl
   where
     go : (g : Gate) → gate_of z s output ≡ g → drop_of z s output ≡ OneDrop d
-        → lostOf s.acks.counters.remote_ack_sequence_num.0 (table_of z s.acks.number) s.acks.records ≡ OneLoss d
+        → lost_of s.acks.counters.remote_ack_sequence_num.0 (table_of z s.acks.number) s.acks.records ≡ OneLoss d
     go (Shut why) e = rw e (λ q. absurd (let w : ◌≡◌ {A = ℕ} 0 1 = cc in omega arith))
-    go Open e = rw e (λ q. lost_of _ d q)
+    go Open e = rw e (λ q. lost_of_lem _ d q)
 
 -- a take leaves what is in flight
 take_acks : (z : Sizes) (s : State) (stream : ℕ) (output : List ℕ) → (take_of z s stream output).end.acks ≡ s.acks
@@ -253,7 +253,7 @@ module _ (l : Pair) (alike : Alike l) where
         (out-other l alike s ok (item_again sent) payload output t.stream_byte narrow g d e' pb (λ o r. ne (two_byte sent.ordering known o) r) refl)
 
     -- a packet is given up
-    drop-is : drop_of l.sending s output ≡ answered_by (lostOf s.acks.counters.remote_ack_sequence_num.0 (table_of z s.acks.number) s.acks.records)
+    drop-is : drop_of l.sending s output ≡ answered_by (lost_of s.acks.counters.remote_ack_sequence_num.0 (table_of z s.acks.number) s.acks.records)
     unfolding drop_of
     drop-is = rw gate refl
 
@@ -261,7 +261,7 @@ module _ (l : Pair) (alike : Alike l) where
         → (d.number.0 < 65536)
         × ((views l).flight s d.number.0 ≡ some (record { packet = d.sent; payload = take d.count (drop_output l.sending s output) }))
     dropped-was d e =
-        let lost = lost_of _ d (sym drop-is ∙ e) in
+        let lost = lost_of_lem _ d (sym drop-is ∙ e) in
         let remote : ℕ = s.acks.counters.remote_ack_sequence_num.0 in
         let size = given-size z s.acks ok.range ok.kept.acks d s.acks.counters.remote_ack_sequence_num.0 lost in (
           lost-word z s.acks ok.range ok.kept.acks d s.acks.counters.remote_ack_sequence_num.0 lost,
@@ -291,7 +291,7 @@ module _ (l : Pair) (alike : Alike l) where
         (get_or (pieces z.fragment_size (payload_for z s.acks.number s.acks.bytes n)) j [])
         (subst (λ (y : List ℕ). Bytes y)
         (sym (piece_at z.fragment_size (payload_for z s.acks.number s.acks.bytes n) (in_range_means z ok.range).f.0 j))
-        (taken z.fragment_size (drop (j * z.fragment_size) (payload_for z s.acks.number s.acks.bytes n)) (droppedBytes (j * z.fragment_size) (payload_for z s.acks.number s.acks.bytes n) b)))
+        (taken z.fragment_size (drop (j * z.fragment_size) (payload_for z s.acks.number s.acks.bytes n)) (dropped_bytes (j * z.fragment_size) (payload_for z s.acks.number s.acks.bytes n) b)))
 
     wrote : (n j count : ℕ) → ((e : Entry) → (views l).flight s n ≡ some e → Bytes e.payload) → fragment_of l.sending s n j output ≡ Fragment count
         → Beyond l.receiving.version l.stream (take count (fragment_output l.sending s n j output)) × Bytes (take count (fragment_output l.sending s n j output))
@@ -374,28 +374,28 @@ module _ (l : Pair) (alike : Alike l) where
   beside : (r : State) (c : Call) → Ok l.receiving r → Beside l.receiving l.stream c → Same l (views l) r (called l.receiving r c)
   unfolding called
   beside r (receives d output) ok b = absurd b
-  beside r (takesOn stream output) ok b = equal_same r _ (take_left l.receiving l.stream r ok.kept stream output (λ e. b.1 (sym e)))
-  beside r (sendsOn delivery ordering stream payload output) ok b = sent_same r ok.kept delivery ordering stream payload output
-  beside r (resendsOn sent payload output) ok b = resent_same r ok.kept sent payload output
-  beside r (writesOn n j output) ok b = no_change r
-  beside r (dropsOn output) ok b = same_ordered l r ok _ refl
+  beside r (takes_on stream output) ok b = equal_same r _ (take_left l.receiving l.stream r ok.kept stream output (λ e. b.1 (sym e)))
+  beside r (sends_on delivery ordering stream payload output) ok b = sent_same r ok.kept delivery ordering stream payload output
+  beside r (resends_on sent payload output) ok b = resent_same r ok.kept sent payload output
+  beside r (writes_on n j output) ok b = no_change r
+  beside r (drops_on output) ok b = same_ordered l r ok _ refl
   beside r (asks output) ok b = no_change r
 
   beside_ok : (r : State) (c : Call) → Ok l.receiving r → Beside l.receiving l.stream c → Ok l.receiving (called l.receiving r c)
   unfolding called
   beside_ok r (receives d output) ok b = absurd b
-  beside_ok r (takesOn stream output) ok b = record { range = ok.range; kept = kept_takes l.receiving r ok.range ok.kept stream output }
-  beside_ok r (sendsOn delivery ordering stream payload output) ok b =
+  beside_ok r (takes_on stream output) ok b = record { range = ok.range; kept = kept_takes l.receiving r ok.range ok.kept stream output }
+  beside_ok r (sends_on delivery ordering stream payload output) ok b =
       record { range = ok.range; kept = kept_sends l.receiving r ok.range ok.kept delivery ordering stream payload output b.1 }
-  beside_ok r (resendsOn sent payload output) ok b = record { range = ok.range; kept = kept_resends l.receiving r ok.range ok.kept sent payload output b.1 }
-  beside_ok r (writesOn n j output) ok b = ok
-  beside_ok r (dropsOn output) ok b = record { range = ok.range; kept = kept_drops l.receiving r ok.range ok.kept output }
+  beside_ok r (resends_on sent payload output) ok b = record { range = ok.range; kept = kept_resends l.receiving r ok.range ok.kept sent payload output b.1 }
+  beside_ok r (writes_on n j output) ok b = ok
+  beside_ok r (drops_on output) ok b = record { range = ok.range; kept = kept_drops l.receiving r ok.range ok.kept output }
   beside_ok r (asks output) ok b = ok
 
   pub promises : Promises l (views l)
   promises =
       record {
-        first-sender = λ s o new. (record { range = new.sizes; kept = kept_new l.sending s o new }, ap (λ (x : OrderingStream). x.next_item.0) (none_made l.sending s o new l.stream l.stream), no_number l.sending s o new l.stream);
+        first-sender = λ s o new. (record { range = new.sizes; kept = kept_new l.sending s o new }, ap (λ (x : OrderingStream). x.next_item.0) (none_made l.sending s o new l.stream l.stream), no_number_lem l.sending s o new l.stream);
         first-receiver = λ r o new. (record { range = new.sizes; kept = kept_new l.receiving r o new }, ap (λ (x : OrderingStream). x.expected_index.0) (none_made l.receiving r o new l.stream l.stream), λ y. none_held l.receiving.fragment_size (seen l.receiving.fragment_size r.ordered l.stream) (none_made l.receiving r o new l.stream l.stream) y);
         send-mine = λ s delivery ordering stream payload output d ok lent byte pb on e.
             send-mine s ok output lent delivery ordering stream payload d byte pb on _ (send-is s ok output lent delivery ordering stream payload) e;

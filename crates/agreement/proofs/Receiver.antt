@@ -12,8 +12,8 @@ use Rattle.laws.proofs.Cases.{case, lt_or_le}
 use Rattle.serial.specs.Order.{back}
 use Rattle.terms.specs.declared.Sizes.{Sizes}
 use Rattle.terms.specs.declared.Refusal.TheVariants.{NoStream, Full as IsFull}
-use Rattle.ordering_plan.specs.State.{State as Stream, place_of as heldPlace}
-use Rattle.ordering_plan.specs.Arrange.{plan_of as itemPlan, arranged}
+use Rattle.ordering_plan.specs.State.{State as Stream, place_of as held_place}
+use Rattle.ordering_plan.specs.Arrange.{plan_of as item_plan, arranged}
 use Rattle.ordering_plan.specs.declared.Arranged.{Arranged}
 use Rattle.ordering_plan.specs.declared.Arranged.TheVariants.{Out as GoesOut, Held as IsHeld, Old as IsOld, Refused as IsRefused}
 use Rattle.ordering_plan.specs.declared.OrderingStream.{OrderingStream}
@@ -48,8 +48,8 @@ Planned (IsHeld k) d = (1 ≤ d) × (d ≤ 32768)
 Planned IsOld d = 32769 ≤ d
 Planned (IsRefused why) d = (1 ≤ d) × (d ≤ 32768) × (why ≡ IsFull)
 
-pub planned : (s : OrderingStream) (index : List ℕ) (i : ℕ) → Planned (itemPlan s index i) (back i s.expected_index.0)
-unfolding itemPlan
+pub planned : (s : OrderingStream) (index : List ℕ) (i : ℕ) → Planned (item_plan s index i) (back i s.expected_index.0)
+unfolding item_plan
 planned s index i =
     case (eqb (back i s.expected_index.0) 0) (λ a. rw a (eqb-true (back i s.expected_index.0) 0 a))
     (λ a.
@@ -57,7 +57,7 @@ planned s index i =
     case (ltb 32768 (back i s.expected_index.0)) (λ b. rw (a, b) (ltb-true 32768 (back i s.expected_index.0) b))
     (λ b.
     let near = ltb-false 32768 (back i s.expected_index.0) b in
-    case (eqb (heldPlace s index i) 64) (λ c. rw (a, b, c) (omega (arith, one), near, refl)) (λ c. rw (a, b, c) (omega (arith, one), near))))
+    case (eqb (held_place s index i) 64) (λ c. rw (a, b, c) (omega (arith, one), near, refl)) (λ c. rw (a, b, c) (omega (arith, one), near))))
 
 module _ (l : Pair) (r : State) (ok : Ok l.receiving r) where
   abbrev z : Sizes
@@ -118,7 +118,7 @@ module _ (l : Pair) (r : State) (ok : Ok l.receiving r) where
     fifth-is e = read_is ∙ rw (t.ordered, t.stream_is, plan_none r.ordered.counters r.ordered.index id t.h.arranging.index.0 J refl e)
 
     abbrev A : Arranged
-    A = itemPlan S.stream S.index i
+    A = item_plan S.stream S.index i
 
     pub item_is : (J ≡ 4 → ⊥) → X ≡ packet_as (ordered_as A (record { at = J; plan = A })) z t.h b r output
     unfolding plan_of

@@ -9,7 +9,7 @@ use Rattle.laws.proofs.Cases.{lt_or_le}
 use Rattle.serial.specs.Order.{back}
 use Rattle.terms.specs.declared.Refusal.TheVariants.{Full as IsFull}
 use Rattle.ordering_plan.specs.State.{State as Stream, fresh}
-use Rattle.ordering_plan.specs.Arrange.{plan_of as itemPlan}
+use Rattle.ordering_plan.specs.Arrange.{plan_of as item_plan}
 use Rattle.ordering_plan.specs.declared.Arranged.{Arranged}
 use Rattle.ordering_plan.specs.declared.Arranged.TheVariants.{Out as GoesOut, Held as IsHeld, Old as IsOld, Refused as IsRefused}
 use Rattle.ordering_plan.specs.declared.OrderingStream.{OrderingStream}
@@ -73,7 +73,7 @@ module _ (l : Pair) (w : World) (ok : Ok l.receiving w.receiver) (d output : Lis
       let z : ◌≡◌ {A = ℕ} 0 64 = rw none_there at o in
       omega arith
 
-  exact : (J ≡ 4 → ⊥) → (itemPlan S.stream S.index (p % 65536) ≡ IsRefused IsFull → Full S (p % 65536)) × (Full S (p % 65536) → itemPlan S.stream S.index (p % 65536) ≡ IsRefused IsFull)
+  exact : (J ≡ 4 → ⊥) → (item_plan S.stream S.index (p % 65536) ≡ IsRefused IsFull → Full S (p % 65536)) × (Full S (p % 65536) → item_plan S.stream S.index (p % 65536) ≡ IsRefused IsFull)
   exact ne =
       let room = (state_good f w.receiver.ordered ok.kept.ordered.whole J (one-of-four' ne)).room in
       let e = full_is_exact S.stream S.index (p % 65536) room.few room.indices in
@@ -82,7 +82,7 @@ module _ (l : Pair) (w : World) (ok : Ok l.receiving w.receiver) (d output : Lis
       one-of-four' : (J ≡ 4 → ⊥) → J < 4
       one-of-four' ne = in_four l w.receiver ok d output (p % 65536) b lent t fits ne
 
-  by_plan : (J ≡ 4 → ⊥) → (a : Arranged) → itemPlan S.stream S.index (p % 65536) ≡ a
+  by_plan : (J ≡ 4 → ⊥) → (a : Arranged) → item_plan S.stream S.index (p % 65536) ≡ a
       → Refusals l w p (number_of_answer (packet_as (ordered_as a (record { at = J; plan = a })) l.receiving t.h b w.receiver output).answer)
   by_plan ne GoesOut e =
       record {
@@ -123,5 +123,5 @@ module _ (l : Pair) (w : World) (ok : Ok l.receiving w.receiver) (d output : Lis
       }))
       (λ (ne : J ≡ 4 → ⊥).
       subst (λ (x : Received). Refusals l w p (number_of_answer x.answer)) (sym (item_is l w.receiver ok d output (p % 65536) b lent t fits ne))
-      (by_plan ne (itemPlan S.stream S.index (p % 65536)) refl))
+      (by_plan ne (item_plan S.stream S.index (p % 65536)) refl))
       (same? J 4)

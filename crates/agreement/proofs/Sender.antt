@@ -14,7 +14,7 @@ use Rattle.terms.specs.declared.Sizes.{Sizes}
 use Rattle.terms.specs.declared.Refusal.{Refusal}
 use Rattle.terms.proofs.Ranges.{in_range_means}
 use Rattle.flight.specs.Entry.{word_of, numbers_in, packed}
-use Rattle.flight.specs.Places.{place_of as placeInFlight, full}
+use Rattle.flight.specs.Places.{place_of as place_in_flight, full}
 use Rattle.flight.specs.View.{Flight, view}
 use Rattle.acks.specs.State.{table_of, slot_of}
 use Rattle.acknowledgment_laws.specs.Runs.{Typed}
@@ -171,11 +171,11 @@ module _ (l : Pair) (alike : Alike l) (s : State) (ok : Ok l.sending s) (i : Ite
           → view (slot_of z) (flight_of z X.end.acks) m ≡ cond (eqb m d.number.0) (some (record { packet = record_of i ID; payload = payload })) (view (slot_of z) (flight_of z s.acks) m)
       stored r m h =
           ap (λ (x : Sent). view (slot_of z) (flight_of z x.end.acks) m) g.is
-          ∙ ap (λ (x : Flight). view (slot_of z) x m) (reliable_flight z s i g.q payload output (placeInFlight local (numbers_in (table_of z s.acks.number))) at_is r)
+          ∙ ap (λ (x : Flight). view (slot_of z) x m) (reliable_flight z s i g.q payload output (place_in_flight local (numbers_in (table_of z s.acks.number))) at_is r)
           ∙ sent-view z s.acks ok.range ok.kept.acks (record_of i ID) payload typed roomy few m h
           ∙ ap (λ (x : ℕ). cond (eqb m x) (some (record { packet = record_of i ID; payload = payload })) (view (slot_of z) (flight_of z s.acks) m)) (sym number_is)
         where
-          at_is : g.q.at ≡ placeInFlight local (numbers_in (table_of z s.acks.number))
+          at_is : g.q.at ≡ place_in_flight local (numbers_in (table_of z s.acks.number))
           at_is = g.free.at_is ∙ ap (λ (x : DeliveryGuarantee). flight_place x local (table_of z s.acks.number)) r
 
           roomy : full local (numbers_in (table_of z s.acks.number)) ≡ false

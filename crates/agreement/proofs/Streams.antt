@@ -12,7 +12,7 @@ use lib.ListN.{length, get_or, take, set, length-set}
 use lib.Seq.{length-take-le, get_or-take, get_or-set_same, get_or-set_other}
 use Rattle.laws.proofs.Cases.{lt_or_le}
 use Rattle.keys.proofs.First.{first_at, first_min}
-use Rattle.ordering_plan.specs.State.{State as Stream, fresh, place_of as heldPlace}
+use Rattle.ordering_plan.specs.State.{State as Stream, fresh, place_of as held_place}
 use Rattle.ordering_plan.specs.declared.OrderingStream.{OrderingStream}
 use Rattle.ordering_laws.specs.Held.{held_at}
 use Rattle.arranging_plan.specs.Ids.{place_of, made_at}
@@ -142,7 +142,7 @@ pub none_held : (f : ℕ) (t : Stream) → t.stream ≡ fresh → (y : ℕ) → 
 unfolding held_at
 none_held f t e y =
     let none_there : t.stream.held ≡ 0 = ap (λ (x : OrderingStream). x.held) e in
-    rw (le-ltb (heldPlace t.stream t.index y) t.stream.held (rw none_there (omega arith)))
+    rw (le-ltb (held_place t.stream t.index y) t.stream.held (rw none_there (omega arith)))
 
 pub ids_of : (f : ℕ) (s : States) → Whole f s → WholeIds s.counters.known
 ids_of f s w = record { four_ids = w.four_ids; state = all_ids f s.counters s.index s.lengths w.state }

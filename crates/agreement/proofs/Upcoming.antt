@@ -21,7 +21,7 @@ use Rattle.packet.specs.declared.Read.{Read}
 use Rattle.packet.specs.declared.Read.TheVariants.{Found, Refused as Unread}
 use Rattle.ordering_plan.specs.State.{State as Stream}
 use Rattle.ordering.specs.Take.{next_of, taken}
-use Rattle.ordering_plan.specs.Arrange.{plan_of as itemPlan}
+use Rattle.ordering_plan.specs.Arrange.{plan_of as item_plan}
 use Rattle.ordering_plan.specs.declared.OrderingStream.{OrderingStream}
 use Rattle.ordering_plan.specs.declared.Arranged.{Arranged}
 use Rattle.ordering_plan.specs.declared.Arranged.TheVariants.{Out as GoesOut, Held as IsHeld, Old as IsOld, Refused as IsRefused}
@@ -70,7 +70,7 @@ module _ (z : Sizes) (id : ℕ) (s : State) (k : Kept z s) where
     I = h.arranging.stream
 
     arranged-up : (free : place_of s.ordered.counters.known I < 4) → (a : Arranged)
-        → itemPlan (stream_at s.ordered.counters (place_of s.ordered.counters.known I)) (part s.ordered.index (place_of s.ordered.counters.known I * 64) 64) h.arranging.index.0 ≡ a
+        → item_plan (stream_at s.ordered.counters (place_of s.ordered.counters.known I)) (part s.ordered.index (place_of s.ordered.counters.known I * 64) 64) h.arranging.index.0 ≡ a
         → Up (packet_as (ordered_as a (record { at = place_of s.ordered.counters.known I; plan = a })) z h payload s output).end.ordered
     arranged-up free GoesOut e = stored_up I free _ (arranged_fits f s.ordered k.ordered.whole _ free h.arranging.index.0 payload short GoesOut e) refl
     arranged-up free (IsHeld j) e = stored_up I free _ (arranged_fits f s.ordered k.ordered.whole _ free h.arranging.index.0 payload short (IsHeld j) e) refl
@@ -87,7 +87,7 @@ module _ (z : Sizes) (id : ℕ) (s : State) (k : Kept z s) where
         (λ q.
         rw q
         (arranged-up (one_of_four s.ordered.counters.known (ids_of f s.ordered k.ordered.whole) I q)
-        (itemPlan (stream_at s.ordered.counters (place_of s.ordered.counters.known I)) (part s.ordered.index (place_of s.ordered.counters.known I * 64) 64) h.arranging.index.0) refl))
+        (item_plan (stream_at s.ordered.counters (place_of s.ordered.counters.known I)) (part s.ordered.index (place_of s.ordered.counters.known I * 64) 64) h.arranging.index.0) refl))
 
   module _ (d output : List ℕ) where
     by_type_lem : (t : PacketType) (h : Headers) (payload : List ℕ) → length payload ≤ z.fragment_size → Up (by_type t z h payload s output).end.ordered

@@ -6,14 +6,14 @@ use Rattle.terms.specs.declared.Sizes.{Sizes}
 use Rattle.acknowledgment_laws.specs.Runs.{Typed}
 use Rattle.packet_table.specs.Numbers.{Bytes}
 use Rattle.ordering_plan.specs.State.{State as Stream}
-use Rattle.ordering_laws.specs.Full.{others as otherIndices}
+use Rattle.ordering_laws.specs.Full.{others as other_indices}
 use Rattle.arranging_plan.specs.Ids.{place_of}
 use Rattle.arranging_plan.specs.Ordered.{state_at}
 use Rattle.arranging_plan.specs.declared.ids.StreamIds.{StreamIds}
 use Rattle.ends.specs.State.{State}
 use Rattle.receiving_plan.specs.Plan.{number_of_answer}
 use Rattle.link_incoming.specs.Calls.{receive_of}
-use Rattle.link_laws.specs.Calls.{Call, receives, takes as takesOn, sends as sendsOn, resends as resendsOn, writes as writesOn, drops as dropsOn, asks}
+use Rattle.link_laws.specs.Calls.{Call, receives, takes as takes_on, sends as sends_on, resends as resends_on, writes as writes_on, drops as drops_on, asks}
 use Rattle.link_laws.specs.Never.{New}
 use Rattle.agreement.specs.World.{Pair, Alike, World, start, no_copy}
 use Rattle.agreement.specs.Events.{Event, sends, resends, drops, writes, hears, collects, arrives, takes, others, step, run}
@@ -37,11 +37,11 @@ Waited quiet (some p) = T quiet
 -- other calls at the receiver: no datagram but those of the line, and no take on the stream
 abbrev pub Beside : Sizes → ℕ → Call → Type 0
 Beside z id (receives datagram output) = ⊥
-Beside z id (takesOn stream output) = Lent z output × (stream ≡ id → ⊥)
-Beside z id (sendsOn delivery ordering stream payload output) = Lent z output × (stream < 256)
-Beside z id (resendsOn sent payload output) = Lent z output × Typed sent
-Beside z id (writesOn n j output) = Lent z output
-Beside z id (dropsOn output) = Lent z output
+Beside z id (takes_on stream output) = Lent z output × (stream ≡ id → ⊥)
+Beside z id (sends_on delivery ordering stream payload output) = Lent z output × (stream < 256)
+Beside z id (resends_on sent payload output) = Lent z output × Typed sent
+Beside z id (writes_on n j output) = Lent z output
+Beside z id (drops_on output) = Lent z output
 Beside z id (asks output) = Lent z output
 
 -- an id is a byte, a packet number a word, payloads and datagrams are bytes, as their types say
@@ -87,7 +87,7 @@ pub record Fifth (n : StreamIds) (id : ℕ) : Type 0 where
 pub record Full (s : Stream) (index : ℕ) : Type 0 where
   pub ahead : 1 ≤ back index s.stream.expected_index.0
   pub near : back index s.stream.expected_index.0 ≤ 32768
-  pub others_held : otherIndices index (take s.stream.held s.index) ≡ 64
+  pub others_held : other_indices index (take s.stream.held s.index) ≡ 64
 
 -- "A copy goes unaccepted only by a refusal that 01 .. prescribes; .. that is 6, 7": n is 01's number of what a copy of item p is
 -- answered, 0 where it is accepted

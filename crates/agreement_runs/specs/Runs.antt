@@ -2,11 +2,11 @@
 use Rattle.std.specs.Prelude.{ℕ, zero, suc, ◌≡◌, List, [], ◌∷◌, ◌++◌, replicate, take}
 use Rattle.packet_table.specs.declared.DeliveryGuarantee.TheVariants.{Reliable}
 use Rattle.packet_table.specs.declared.OrderingGuarantee.TheVariants.{None}
-use Rattle.ordering_plan.specs.State.{fresh as freshStream}
+use Rattle.ordering_plan.specs.State.{fresh as fresh_stream}
 use Rattle.ends.specs.State.{fresh_end}
 use Rattle.ends.specs.declared.End.{End}
 use Rattle.link_outgoing.specs.Calls.{send_of}
-use Rattle.link_laws.specs.Calls.{sends as sendsOn}
+use Rattle.link_laws.specs.Calls.{sends as sends_on}
 use Rattle.link_laws.specs.Never.{New}
 use Rattle.agreement.specs.World.{World, start}
 use Rattle.agreement.specs.Agreement.{Mays}
@@ -31,7 +31,7 @@ told_by w = take 14 (send_of sizes w.receiver Reliable None 0 (5 ∷ []) out).ou
 
 unfoldable pub resending : World → List Event
 resending w =
-    others (sendsOn Reliable None 0 (5 ∷ []) out) ∷ hears (told_by w) out ∷ drops out ∷ resends 0 out ∷ arrives 0 out ∷ replicate 40 (takes out)
+    others (sends_on Reliable None 0 (5 ∷ []) out) ∷ hears (told_by w) out ∷ drops out ∷ resends 0 out ∷ arrives 0 out ∷ replicate 40 (takes out)
 
 unfoldable pub resent_from : End → World
 resent_from end = run pair (lost_from end) (resending (lost_from end))
@@ -44,7 +44,7 @@ later =
       reassembly = fresh_end.reassembly;
       ordering = record {
         known = record { made = 1; ids = 3 ∷ replicate 3 0 };
-        streams = record { expected_index = record { 0 = 65510 }; held = 0; next_item = record { 0 = 65510 } } ∷ replicate 3 freshStream;
+        streams = record { expected_index = record { 0 = 65510 }; held = 0; next_item = record { 0 = 65510 } } ∷ replicate 3 fresh_stream;
       };
       sequencing = fresh_end.sequencing;
     }

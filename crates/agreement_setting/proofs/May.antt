@@ -11,7 +11,7 @@ use lib.ListN.{length, get_or}
 use Rattle.laws.proofs.Cases.{both, each}
 use Rattle.terms.specs.declared.Sizes.{Sizes}
 use Rattle.packet_table.specs.Numbers.{Bytes}
-use Rattle.link_laws.specs.Calls.{Call, receives, takes as takesOn, sends as sendsOn, resends as resendsOn, writes as writesOn, drops as dropsOn, asks}
+use Rattle.link_laws.specs.Calls.{Call, receives, takes as takes_on, sends as sends_on, resends as resends_on, writes as writes_on, drops as drops_on, asks}
 use Rattle.agreement.specs.World.{Pair, World, no_copy}
 use Rattle.agreement.specs.Events.{Event, sends, resends, drops, writes, hears, collects, arrives, takes, others, step, run}
 use Rattle.agreement.specs.Agreement.{Lent, Window, Waited, Beside, May, Mays}
@@ -52,21 +52,21 @@ waited_ok false (some p) h = both {b = false} h refl
 -- of the other calls at the receiver, sends
 abbrev beside_b : Sizes → Call → Bool
 beside_b z (receives datagram output) = false
-beside_b z (takesOn stream output) = false
-beside_b z (sendsOn delivery ordering stream payload output) = lent_b z output && ltb stream 256
-beside_b z (resendsOn sent payload output) = false
-beside_b z (writesOn n j output) = false
-beside_b z (dropsOn output) = false
+beside_b z (takes_on stream output) = false
+beside_b z (sends_on delivery ordering stream payload output) = lent_b z output && ltb stream 256
+beside_b z (resends_on sent payload output) = false
+beside_b z (writes_on n j output) = false
+beside_b z (drops_on output) = false
 beside_b z (asks output) = false
 
 beside_ok : (z : Sizes) (id : ℕ) (c : Call) → beside_b z c ≡ true → Beside z id c
 beside_ok z id (receives datagram output) h = both {b = false} h refl
-beside_ok z id (takesOn stream output) h = both {b = false} h refl
-beside_ok z id (sendsOn delivery ordering stream payload output) h =
+beside_ok z id (takes_on stream output) h = both {b = false} h refl
+beside_ok z id (sends_on delivery ordering stream payload output) h =
     let q = each (lent_b z output) (ltb stream 256) h in (lent_ok z output q.0, ltb-true stream 256 q.1)
-beside_ok z id (resendsOn sent payload output) h = both {b = false} h refl
-beside_ok z id (writesOn n j output) h = both {b = false} h refl
-beside_ok z id (dropsOn output) h = both {b = false} h refl
+beside_ok z id (resends_on sent payload output) h = both {b = false} h refl
+beside_ok z id (writes_on n j output) h = both {b = false} h refl
+beside_ok z id (drops_on output) h = both {b = false} h refl
 beside_ok z id (asks output) h = both {b = false} h refl
 
 abbrev may_b : Pair → World → Event → Bool

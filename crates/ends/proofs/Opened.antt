@@ -16,10 +16,10 @@ use Rattle.terms.specs.declared.Gate.TheVariants.{Open, Shut}
 use Rattle.terms.proofs.Ranges.{InRange, in_range_means}
 use Rattle.received.specs.Record.{slots_of}
 use Rattle.flight.specs.Lost.{Table}
-use Rattle.flight.specs.Places.{sound as flightSound}
-use Rattle.acks.specs.Gate.{lent, sound as acksSound}
+use Rattle.flight.specs.Places.{sound as flight_sound}
+use Rattle.acks.specs.Gate.{lent, sound as acks_sound}
 use Rattle.acks.proofs.Gates.{Lent, lent_means, sound_means}
-use Rattle.reassembly_plan.specs.Gate.{too_short as partsTooShort, sound as partsSound}
+use Rattle.reassembly_plan.specs.Gate.{too_short as parts_too_short, sound as parts_sound}
 use Rattle.reassembly.specs.Call.{stated}
 use Rattle.reassembly.specs.Room.{Room}
 use Rattle.reassembly_plan.proofs.Opening.{Long as PartsLong, long_enough as parts_long}
@@ -39,8 +39,8 @@ pub record Stored (z : Sizes) (s : State) (output : List ℕ) : Type 0 where
 
 -- not 13, module by module
 pub record AllSound (z : Sizes) (s : State) : Type 0 where
-  pub acks : acksSound z s.acks.received s.acks.number ≡ true
-  pub parts : partsSound z.fragment_size (take z.reassembly_slots s.parts.slots) s.parts.entry ≡ true
+  pub acks : acks_sound z s.acks.received s.acks.number ≡ true
+  pub parts : parts_sound z.fragment_size (take z.reassembly_slots s.parts.slots) s.parts.entry ≡ true
   pub ordered : sound_all z.fragment_size s.ordered.counters s.ordered.index s.ordered.lengths ≡ true
   pub sequenced : sound_ids s.sequenced.known ≡ true
 
@@ -48,7 +48,7 @@ pub stored_means : (z : Sizes) (s : State) (output : List ℕ) → is_lent z s o
 unfolding is_lent
 stored_means z s output e =
     let p = each (lent z s.acks.received s.acks.number s.acks.records s.acks.bytes) _ e in
-    let q = each (not (partsTooShort z.fragment_size z.reassembly_slots s.parts.slots s.parts.entry s.parts.header s.parts.bytes output)) _ p.1 in
+    let q = each (not (parts_too_short z.fragment_size z.reassembly_slots s.parts.slots s.parts.entry s.parts.header s.parts.bytes output)) _ p.1 in
     record {
       acks = lent_means z s.acks.received s.acks.number s.acks.records s.acks.bytes p.0;
       parts = parts_long z.fragment_size z.reassembly_slots s.parts.slots s.parts.entry s.parts.header s.parts.bytes output (off _ q.0);
@@ -58,8 +58,8 @@ stored_means z s output e =
 pub all_sound : (z : Sizes) (s : State) → is_sound z s ≡ true → AllSound z s
 unfolding is_sound
 all_sound z s e =
-    let p = each (acksSound z s.acks.received s.acks.number) _ e in
-    let q = each (partsSound z.fragment_size (take z.reassembly_slots s.parts.slots) s.parts.entry) _ p.1 in
+    let p = each (acks_sound z s.acks.received s.acks.number) _ e in
+    let q = each (parts_sound z.fragment_size (take z.reassembly_slots s.parts.slots) s.parts.entry) _ p.1 in
     let r = each (sound_all z.fragment_size s.ordered.counters s.ordered.index s.ordered.lengths) _ q.1 in
     record { acks = p.0; parts = q.0; ordered = r.0; sequenced = r.1 }
 
@@ -91,7 +91,7 @@ pub record Opened (z : Sizes) (s : State) (output : List ℕ) : Type 0 where
   pub records_room : z.packets_in_flight ≤ length s.acks.records
   pub payloads_room : z.packets_in_flight * (16 * z.fragment_size) ≤ length s.acks.bytes
   pub flight : Table (16 * z.fragment_size) (take z.packets_in_flight s.acks.number) s.acks.records s.acks.bytes
-  pub flight_sound : flightSound (16 * z.fragment_size) (take z.packets_in_flight s.acks.number) ≡ true
+  pub flight_sound_lem : flight_sound (16 * z.fragment_size) (take z.packets_in_flight s.acks.number) ≡ true
   pub once_received : twice (slots_of s.acks.received) ≡ false
   pub slots_room : z.reassembly_slots ≤ length s.parts.slots
   pub parts : Room z.fragment_size (stated z.reassembly_slots s.parts) output
@@ -118,8 +118,8 @@ module _ (z : Sizes) (s : State) (output : List ℕ) where
         fits = (sound_means z s.acks.received s.acks.number h.acks).fits;
       }
 
-  flight_once : AllSound z s → flightSound (16 * F) (take N s.acks.number) ≡ true
-  unfolding acksSound
+  flight_once : AllSound z s → flight_sound (16 * F) (take N s.acks.number) ≡ true
+  unfolding acks_sound
   flight_once h = (each (not (twice (slots_of s.acks.received))) _ h.acks).1
 
   parts_room : InRange z → Stored z s output → AllSound z s → Room F (stated z.reassembly_slots s.parts) output
@@ -142,7 +142,7 @@ module _ (z : Sizes) (s : State) (output : List ℕ) where
         records_room = t.acks.recorded;
         payloads_room = t.acks.room;
         flight = flight_table r t h;
-        flight_sound = flight_once h;
+        flight_sound_lem = flight_once h;
         once_received = (sound_means z s.acks.received s.acks.number h.acks).once_received;
         slots_room = t.parts.slots_c;
         parts = parts_room r t h;

@@ -7,13 +7,13 @@ use lib.ListN.{take}
 use Rattle.keys.specs.Keys.{twice}
 use Rattle.terms.specs.declared.Sizes.{Sizes}
 use Rattle.received.specs.Record.{slots_of}
-use Rattle.flight.specs.Places.{sound as flightSound}
+use Rattle.flight.specs.Places.{sound as flight_sound}
 use Rattle.acks.specs.State.{table_of, slot_of}
-use Rattle.acks.specs.Gate.{lent, sound as acksSound}
-use Rattle.reassembly_plan.specs.Gate.{too_short as partsTooShort, sound as partsSound}
+use Rattle.acks.specs.Gate.{lent, sound as acks_sound}
+use Rattle.reassembly_plan.specs.Gate.{too_short as parts_too_short, sound as parts_sound}
 use Rattle.arranging_plan.specs.Ids.{sound_ids}
 use Rattle.arranging_plan.specs.Ordered.{sound_all}
-use Rattle.arranging_plan.specs.Gate.{too_short as orderedTooShort}
+use Rattle.arranging_plan.specs.Gate.{too_short as ordered_too_short}
 use Rattle.ends.specs.State.{State, lending, counters_of, fresh_end}
 use Rattle.ends.specs.Gate.{is_lent, is_sound}
 
@@ -22,10 +22,10 @@ module _ (z : Sizes) (s : State) (output : List ℕ) where
   AcksLent = lent z s.acks.received s.acks.number s.acks.records s.acks.bytes
 
   abbrev PartsShort : Bool
-  PartsShort = partsTooShort z.fragment_size z.reassembly_slots s.parts.slots s.parts.entry s.parts.header s.parts.bytes output
+  PartsShort = parts_too_short z.fragment_size z.reassembly_slots s.parts.slots s.parts.entry s.parts.header s.parts.bytes output
 
   abbrev OrderedShort : Bool
-  OrderedShort = orderedTooShort z.fragment_size s.ordered.index s.ordered.lengths s.ordered.bytes output
+  OrderedShort = ordered_too_short z.fragment_size s.ordered.index s.ordered.lengths s.ordered.bytes output
 
   pub lent_acks : AcksLent ≡ false → is_lent z s output ≡ false
   unfolding is_lent
@@ -50,8 +50,8 @@ unfolding twice
 none_twice = refl
 
 -- where nothing is received, what is in flight is all
-pub none_received : (z : Sizes) (number : List ℕ) → acksSound z [] number ≡ flightSound (slot_of z) (table_of z number)
-unfolding acksSound
+pub none_received : (z : Sizes) (number : List ℕ) → acks_sound z [] number ≡ flight_sound (slot_of z) (table_of z number)
+unfolding acks_sound
 none_received z number = rw none_twice
 
 regroup : (a b c : Bool) → (a && b) && c ≡ a && (b && c)
@@ -64,10 +64,10 @@ and_no false = refl
 
 module _ (z : Sizes) (s : State) where
   abbrev AcksSound : Bool
-  AcksSound = acksSound z s.acks.received s.acks.number
+  AcksSound = acks_sound z s.acks.received s.acks.number
 
   abbrev PartsSound : Bool
-  PartsSound = partsSound z.fragment_size (take z.reassembly_slots s.parts.slots) s.parts.entry
+  PartsSound = parts_sound z.fragment_size (take z.reassembly_slots s.parts.slots) s.parts.entry
 
   abbrev OrderedSound : Bool
   OrderedSound = sound_all z.fragment_size s.ordered.counters s.ordered.index s.ordered.lengths
@@ -96,7 +96,7 @@ module _ (z : Sizes) (s : State) where
   RestSound = is_sound z (lending (counters_of s) [] s.acks.number [] [] s.parts.slots s.parts.entry [] [] s.ordered.index s.ordered.lengths [])
 
   record_apart : is_sound z s ≡ RecordSound && RestSound
-  unfolding is_sound acksSound
+  unfolding is_sound acks_sound
   record_apart = rw none_twice (regroup RecordSound _ _)
 
   pub rest_unsound : RestSound ≡ false → is_sound z s ≡ false

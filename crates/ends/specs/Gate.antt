@@ -5,11 +5,11 @@ use Rattle.terms.specs.declared.Sizes.{Sizes}
 use Rattle.terms.specs.declared.Refusal.TheVariants.{BadSizes, BadStorage, BadState}
 use Rattle.terms.specs.declared.Gate.{Gate}
 use Rattle.terms.specs.declared.Gate.TheVariants.{Open, Shut}
-use Rattle.acks.specs.Gate.{lent, sound as acksSound}
-use Rattle.reassembly_plan.specs.Gate.{too_short as partsTooShort, sound as partsSound}
+use Rattle.acks.specs.Gate.{lent, sound as acks_sound}
+use Rattle.reassembly_plan.specs.Gate.{too_short as parts_too_short, sound as parts_sound}
 use Rattle.arranging_plan.specs.Ids.{sound_ids}
 use Rattle.arranging_plan.specs.Ordered.{sound_all}
-use Rattle.arranging_plan.specs.Gate.{too_short as orderedTooShort}
+use Rattle.arranging_plan.specs.Gate.{too_short as ordered_too_short}
 use Rattle.ends.specs.State.{State}
 
 -- not 2: "Lent storage: N x 16 x F in flight, C x 16 x F reassembly, 64 x F per ordered stream, and an output buffer of
@@ -17,14 +17,14 @@ use Rattle.ends.specs.State.{State}
 unfoldable pub is_lent : Sizes → State → List ℕ → Bool
 is_lent z s output =
     lent z s.acks.received s.acks.number s.acks.records s.acks.bytes
-    && (not (partsTooShort z.fragment_size z.reassembly_slots s.parts.slots s.parts.entry s.parts.header s.parts.bytes output)
-    && not (orderedTooShort z.fragment_size s.ordered.index s.ordered.lengths s.ordered.bytes output))
+    && (not (parts_too_short z.fragment_size z.reassembly_slots s.parts.slots s.parts.entry s.parts.header s.parts.bytes output)
+    && not (ordered_too_short z.fragment_size s.ordered.index s.ordered.lengths s.ordered.bytes output))
 
 -- not 13: packets received and in flight, messages, ordered streams, sequenced streams
 unfoldable pub is_sound : Sizes → State → Bool
 is_sound z s =
-    acksSound z s.acks.received s.acks.number
-    && (partsSound z.fragment_size (take z.reassembly_slots s.parts.slots) s.parts.entry
+    acks_sound z s.acks.received s.acks.number
+    && (parts_sound z.fragment_size (take z.reassembly_slots s.parts.slots) s.parts.entry
     && (sound_all z.fragment_size s.ordered.counters s.ordered.index s.ordered.lengths
     && sound_ids s.sequenced.known))
 

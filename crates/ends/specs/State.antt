@@ -2,8 +2,8 @@
 use Rattle.std.specs.Prelude.{◌≡◌, List, ℕ}
 use Rattle.acks.specs.State.{State as Acks, fresh_counters}
 use Rattle.reassembly.specs.Effects.{State as Parts}
-use Rattle.arranging_plan.specs.Ordered.{States, no_streams as noOrdered}
-use Rattle.arranging.specs.Sequenced.{no_streams as noSequenced}
+use Rattle.arranging_plan.specs.Ordered.{States, no_streams as no_ordered}
+use Rattle.arranging.specs.Sequenced.{no_streams as no_sequenced}
 use Rattle.arranging.specs.declared.sequenced.SequencingStreams.{SequencingStreams}
 use Rattle.ends.specs.declared.End.{End}
 
@@ -46,4 +46,4 @@ pub record Leaves (s : State) (end : End) (received number records payloads slot
   pub held_are : held ≡ s.ordered.bytes
 
 abbrev pub fresh_end : End
-fresh_end = record { acks = fresh_counters; reassembly = record { 0 = 0 }; ordering = noOrdered; sequencing = noSequenced }
+fresh_end = record { acks = fresh_counters; reassembly = record { 0 = 0 }; ordering = no_ordered; sequencing = no_sequenced }

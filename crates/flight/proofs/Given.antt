@@ -4,7 +4,7 @@ use mathlib.Core.Option.{none, some}
 use borrow.Author.Tests.{eqb-false}
 use Rattle.laws.proofs.Cases.{case, both}
 use Rattle.keys.specs.Keys.{first_place, twice}
-use Rattle.sequence_buffer.specs.Buffer.{none as noNumber}
+use Rattle.sequence_buffer.specs.Buffer.{none as no_number}
 use Rattle.flight.specs.Entry.{numbers_in, packet_of, length_of, bytes_at}
 use Rattle.flight.specs.Places.{count_of}
 use Rattle.flight.specs.Lost.{is_lost, least_lost, drop_of}
@@ -120,7 +120,7 @@ module _ (f : Flight) (remote : ℕ) where
     dropped-seen room s m v =
         let n = d.number.0 in
         let k = first_place n keys in
-        let long = length-set f.number k noNumber in
+        let long = length-set f.number k no_number in
         let left = numbers_out f.number k in
         case (eqb m n)
         (λ q.
@@ -129,10 +129,10 @@ module _ (f : Flight) (remote : ℕ) where
         (λ q.
         rw q
         (alike room f (without f d) m long
-        (ap (first_place m) left ∙ first_put_other m noNumber keys k within (λ z. eqb-false m n q (sym z ∙ first_at n keys within)) (λ z. omega arith))
+        (ap (first_place m) left ∙ first_put_other m no_number keys k within (λ z. eqb-false m n q (sym z ∙ first_at n keys within)) (λ z. omega arith))
         (λ h.
         let apart : first_place m keys ≡ k → ⊥ = λ z. eqb-false m n q (sym (first_at m keys (rw (numbers_length f.number) h)) ∙ ap (λ (x : ℕ). get_or keys x 0) z ∙ first_at n keys within) in
-        same_word room f (set f.number k noNumber) (first_place m keys) (get_or-set_other f.number k (first_place m keys) noNumber 0 apart))))
+        same_word room f (set f.number k no_number) (first_place m keys) (get_or-set_other f.number k (first_place m keys) no_number 0 apart))))
 
 count_same : (l : List ℕ) → twice l ≡ false → count_of l ≡ distinct_of l
 unfolding count_of distinct_of

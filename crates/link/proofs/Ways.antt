@@ -10,7 +10,7 @@ use Rattle.terms.specs.declared.Sizes.{Sizes}
 use Rattle.terms.specs.declared.Refusal.{Refusal}
 use Rattle.terms.specs.declared.Refusal.TheVariants.{BadSizes, BadStorage}
 use Rattle.terms.specs.declared.Gate.TheVariants.{Open, Shut}
-use Rattle.flight.specs.Lost.{drop_of as lostOf, number_left, output_left}
+use Rattle.flight.specs.Lost.{drop_of as lost_of, number_left, output_left}
 use Rattle.flight.specs.declared.lost.Drop.{Drop}
 use Rattle.acks.specs.State.{table_of, slot_of}
 use Rattle.acknowledgment.specs.Calls.{answered_by}
@@ -49,7 +49,7 @@ Drops z s output r number out = (r ≡ drop_of z s output) × ((number ≡ drop_
 
 module _ (z : Sizes) (s : State) (output : List ℕ) where
   abbrev Lost : Drop
-  Lost = lostOf s.acks.counters.remote_ack_sequence_num.0 (table_of z s.acks.number) s.acks.records
+  Lost = lost_of s.acks.counters.remote_ack_sequence_num.0 (table_of z s.acks.number) s.acks.records
 
   drop_refused : (why : Refusal) → gate_of z s output ≡ Shut why → drop_of z s output ≡ NotDropped why
   unfolding drop_of

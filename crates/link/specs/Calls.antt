@@ -11,7 +11,7 @@ use Rattle.received.specs.Record.{slots_of}
 use Rattle.received.specs.Field.{newest_of, field_of}
 use Rattle.flight.specs.Entry.{numbers_in}
 use Rattle.flight.specs.Places.{count_of}
-use Rattle.flight.specs.Lost.{drop_of as lostOf}
+use Rattle.flight.specs.Lost.{drop_of as lost_of}
 use Rattle.acks.specs.State.{table_of}
 use Rattle.acknowledgment.specs.Calls.{answered_by, number_kept, output_kept}
 use Rattle.acknowledgment.specs.declared.DroppedPackets.{DroppedPackets}
@@ -40,7 +40,7 @@ filled (NotMade why) table = table
 unfoldable pub drop_of : Sizes → State → List ℕ → DroppedPackets
 drop_of z s output =
     through (gate_of z s output) NotDropped
-    (answered_by (lostOf s.acks.counters.remote_ack_sequence_num.0 (table_of z s.acks.number) s.acks.records))
+    (answered_by (lost_of s.acks.counters.remote_ack_sequence_num.0 (table_of z s.acks.number) s.acks.records))
 
 abbrev pub drop_number : Sizes → State → List ℕ → List ℕ
 drop_number z s output = number_kept z (drop_of z s output) s.acks.number

@@ -12,7 +12,7 @@ use Rattle.arranging.specs.Steps.{TakesOn}
 use Rattle.arranging.specs.declared.ordered.AfterTake.{AfterTake}
 use Rattle.ends.specs.State.{State, counters_of, Leaves}
 use Rattle.ends.specs.Gate.{gate_of}
-use Rattle.receiving.specs.Receive.{refused as receiveRefused, received_of, Receives}
+use Rattle.receiving.specs.Receive.{refused as receive_refused, received_of, Receives}
 use Rattle.receiving_plan.specs.declared.Answer.TheVariants.{Refused as NotReceived}
 use Rattle.link_incoming.specs.Calls.{receive_of, taken_by, take_of, Takes}
 
@@ -72,13 +72,13 @@ module _ (z : Sizes) (s : State) (output : List ℕ) where
         output_is = t.output_is;
       })
 
-  receive_refused : (why : Refusal) (d : List ℕ) → gate_of z s output ≡ Shut why → receive_of z s d output ≡ receiveRefused why s output
+  receive_refused_lem : (why : Refusal) (d : List ℕ) → gate_of z s output ≡ Shut why → receive_of z s d output ≡ receive_refused why s output
   unfolding receive_of
-  receive_refused why d e = rw e
+  receive_refused_lem why d e = rw e
 
   pub receive_shut : (why : Refusal) (d : List ℕ) → gate_of z s output ≡ Shut why
       → Receives (receive_of z s d output) (record { end = counters_of s; answer = NotReceived why }) s.acks.received s.acks.number s.acks.records s.acks.bytes s.parts.slots s.parts.entry s.parts.header s.parts.bytes s.ordered.index s.ordered.lengths s.ordered.bytes output
-  receive_shut why d e = rw (receive_refused why d e) (record { answer_is = refl; leaves = unchanged s; output_is = refl })
+  receive_shut why d e = rw (receive_refused_lem why d e) (record { answer_is = refl; leaves = unchanged s; output_is = refl })
 
   pub receive_open : (d : List ℕ) → gate_of z s output ≡ Open → receive_of z s d output ≡ received_of z s d output
   unfolding receive_of

@@ -12,12 +12,12 @@ use Rattle.arranging_plan.specs.Ids.{place_of}
 use Rattle.arranging_plan.specs.Ordered.{state_at, next_on, taken_on}
 use Rattle.ends.specs.State.{State, Leaves}
 use Rattle.ends.specs.Gate.{gate_of}
-use Rattle.receiving.specs.Receive.{Step as Received, refused as receiveRefused, received_of}
+use Rattle.receiving.specs.Receive.{Step as Received, refused as receive_refused, received_of}
 use Rattle.link_incoming.specs.declared.taking.Took.{Took}
 
 -- a datagram has come
 unfoldable pub receive_of : Sizes → State → List ℕ → List ℕ → Received
-receive_of z s d output = through (gate_of z s output) (λ (why : Refusal). receiveRefused why s output) (received_of z s d output)
+receive_of z s d output = through (gate_of z s output) (λ (why : Refusal). receive_refused why s output) (received_of z s d output)
 
 -- the item that is expected on an ordered stream is taken
 pub record Taking : Type 0 where

@@ -12,7 +12,7 @@ use Rattle.serial.specs.Order.{back}
 use Rattle.terms.specs.Refusals.{number_of}
 use Rattle.terms.specs.declared.Sizes.{Sizes}
 use Rattle.terms.specs.declared.Gate.TheVariants.{Open}
-use Rattle.flight.specs.Lost.{drop_of as lostOf}
+use Rattle.flight.specs.Lost.{drop_of as lost_of}
 use Rattle.flight.specs.declared.lost.Drop.{Drop}
 use Rattle.flight.specs.declared.lost.Drop.TheVariants.{Nothing as NoDrop, Packet as OneDrop}
 use Rattle.acks.specs.State.{table_of}
@@ -29,14 +29,14 @@ use Rattle.packet_table.specs.declared.OrderingGuarantee.{OrderingGuarantee}
 use Rattle.packet_table.specs.declared.OrderingGuarantee.TheVariants.{None, Sequenced as InSequence, Ordered as InOrder}
 use Rattle.packet.specs.declared.Read.{Read}
 use Rattle.packet.specs.declared.Read.TheVariants.{Found, Refused as Unread}
-use Rattle.reassembly_plan.specs.Plan.{slot_of, known, found, judged, passed, plan_of as planPart}
+use Rattle.reassembly_plan.specs.Plan.{slot_of, known, found, judged, passed, plan_of as plan_part}
 use Rattle.reassembly.specs.Effects.{complete, joined_answer, answer_of}
 use Rattle.reassembly_plan.specs.declared.words.Entry.{Entry}
 use Rattle.reassembly_plan.specs.declared.plan.Fragment.{Fragment as FragmentOf}
 use Rattle.reassembly_plan.specs.declared.plan.Plan.{Plan as PartPlan}
 use Rattle.reassembly_plan.specs.declared.plan.Plan.TheVariants.{Refuse as RefusePart, Make, Join}
-use Rattle.ordering_plan.specs.State.{place_of as heldPlace}
-use Rattle.ordering_plan.specs.Arrange.{plan_of as itemPlan, number_of_arranged}
+use Rattle.ordering_plan.specs.State.{place_of as held_place}
+use Rattle.ordering_plan.specs.Arrange.{plan_of as item_plan, number_of_arranged}
 use Rattle.ordering.specs.Take.{next_place, next_of, number_of_taken}
 use Rattle.ordering_plan.specs.declared.OrderingStream.{OrderingStream}
 use Rattle.ordering_plan.specs.declared.Arranged.{Arranged}
@@ -46,7 +46,7 @@ use Rattle.sequencing.specs.declared.Sequenced.{Sequenced as Sequence}
 use Rattle.sequencing.specs.declared.Sequenced.TheVariants.{Out as Newest, Dropped}
 use Rattle.arranging_plan.specs.Ids.{place_of}
 use Rattle.arranging_plan.specs.Ordered.{States, stream_at, state_at, part, plan_on, next_on}
-use Rattle.arranging.specs.Sequenced.{stream_at as sequencedAt}
+use Rattle.arranging.specs.Sequenced.{stream_at as sequenced_at}
 use Rattle.arranging_plan.specs.declared.ordered.Planned.{Planned}
 use Rattle.arranging_plan.specs.declared.ordered.OrderingStreams.{OrderingStreams}
 use Rattle.ends.specs.State.{State}
@@ -55,7 +55,7 @@ use Rattle.receiving_plan.specs.Plan.{sequenced_plan, sequenced_told, ordered_as
 use Rattle.receiving_fragments.specs.Fragments.{part_of, part_plan, part_slot, parts_after, told_part}
 use Rattle.receiving.specs.Receive.{by_type, read_as, received_of}
 use Rattle.receiving_plan.specs.declared.Item.{Item as ReceivedItem}
-use Rattle.sending.specs.Plan.{plan_of as sendPlan, is_listed, is_long, place_by, is_full}
+use Rattle.sending.specs.Plan.{plan_of as send_plan, is_listed, is_long, place_by, is_full}
 use Rattle.sending.specs.Send.{transmitted_of, number_of_sent}
 use Rattle.datagrams.specs.Further.{has_further, further_of}
 use Rattle.datagrams.specs.declared.Item.{Item}
@@ -88,14 +88,14 @@ read v d =
     (λ c. rw (a, b, c) nothing)))
 
 -- 6 and 7 on an ordered stream
-item : (s : OrderingStream) (index : List ℕ) (i : ℕ) → Other (number_of_arranged (itemPlan s index i))
-unfolding itemPlan
+item : (s : OrderingStream) (index : List ℕ) (i : ℕ) → Other (number_of_arranged (item_plan s index i))
+unfolding item_plan
 item s index i =
     case (eqb (back i s.expected_index.0) 0) (λ a. rw a nothing)
     (λ a.
     case (ltb 32768 (back i s.expected_index.0)) (λ b. rw (a, b) nothing)
     (λ b.
-    case (eqb (heldPlace s index i) 64) (λ c. rw (a, b, c) (later 6 (omega arith) (omega arith))) (λ c. rw (a, b, c) nothing)))
+    case (eqb (held_place s index i) 64) (λ c. rw (a, b, c) (later 6 (omega arith) (omega arith))) (λ c. rw (a, b, c) nothing)))
 
 planned : (s : OrderingStreams) (index : List ℕ) (id i : ℕ) → Other (number_of_arranged (plan_on s index id i).plan)
 unfolding plan_on
@@ -119,7 +119,7 @@ module _ (h : Headers) (s : State) (it : ReceivedItem) where
   packet None = nothing
   packet InSequence =
       case (eqb (place_of s.sequenced.known h.arranging.stream) 4) (λ a. rw a (later 7 (omega arith) (omega arith)))
-      (λ a. rw a (in_sequence (sequence_of (sequencedAt s.sequenced (place_of s.sequenced.known h.arranging.stream)) h.arranging.index.0) it))
+      (λ a. rw a (in_sequence (sequence_of (sequenced_at s.sequenced (place_of s.sequenced.known h.arranging.stream)) h.arranging.index.0) it))
   packet InOrder =
       let p = plan_on s.ordered.counters s.ordered.index h.arranging.stream h.arranging.index.0 in
       in_order p p.plan it refl (planned s.ordered.counters s.ordered.index h.arranging.stream h.arranging.index.0)
@@ -141,8 +141,8 @@ entry there e g len =
     case (bit e.ids g.id) (λ c. rw (a, b, c) (later 11 (omega arith) (omega arith))) (λ c. rw (a, b, c) nothing)))
     (λ a. rw a (later 10 (omega arith) (omega arith)))
 
-part_plan_lem : (num : ℕ) (slots entries : List ℕ) (g : FragmentOf) (len : ℕ) → Other (number_of_plan (planPart num slots entries g len))
-unfolding planPart number_of_plan
+part_plan_lem : (num : ℕ) (slots entries : List ℕ) (g : FragmentOf) (len : ℕ) → Other (number_of_plan (plan_part num slots entries g len))
+unfolding plan_part number_of_plan
 part_plan_lem num slots entries g len =
     case (passed (known slots g) num slots g.number.0) (λ a. rw a (later 9 (omega arith) (omega arith)))
     (λ a. rw a (entry (known slots g) (found (known slots g) entries (slot_of slots g) g.count) g len))
@@ -190,7 +190,7 @@ next f s id =
 
 -- 4 to 8 of an item that is sent
 sent : (z : Sizes) (s : State) (i : Item) (payload output : List ℕ) → Other (number_of_sent (transmitted_of z s i payload output).answer)
-unfolding transmitted_of sendPlan
+unfolding transmitted_of send_plan
 sent z s i payload output =
     case (is_listed i)
     (λ a.
@@ -216,5 +216,5 @@ through_open z s (sends delivery ordering stream payload output) g = rw g (sent 
 through_open z s (resends packet payload output) g =
     case (leb 3 packet.ordering) (λ a. rw (g, a) (later 4 (omega arith) (omega arith))) (λ a. rw (g, a) (sent z s _ payload output))
 through_open z s (writes n j output) g = case (has_further z s.acks.number n j) (λ a. rw (g, a) nothing) (λ a. rw (g, a) nothing)
-through_open z s (drops output) g = rw g (lost (lostOf s.acks.counters.remote_ack_sequence_num.0 (table_of z s.acks.number) s.acks.records))
+through_open z s (drops output) g = rw g (lost (lost_of s.acks.counters.remote_ack_sequence_num.0 (table_of z s.acks.number) s.acks.records))
 through_open z s (asks output) g = rw g nothing

@@ -15,14 +15,14 @@ use Rattle.sequence_buffer.specs.Buffer.{none, fresh}
 use Rattle.acks.specs.Gate.{lent}
 use Rattle.acknowledgment_laws.proofs.Unbroken.{Good, good_lent, good_sound, good_fresh}
 use Rattle.reassembly.specs.Effects.{State as Parts}
-use Rattle.reassembly_plan.specs.Gate.{too_short as partsTooShort, sound as partsSound}
+use Rattle.reassembly_plan.specs.Gate.{too_short as parts_too_short, sound as parts_sound}
 use Rattle.fragmenter.proofs.Keeping.{Keeps, kept_fresh, kept_sound}
-use Rattle.ordering_plan.specs.State.{fresh as freshOrdered}
+use Rattle.ordering_plan.specs.State.{fresh as fresh_ordered}
 use Rattle.ordering_plan.specs.declared.OrderingStream.{OrderingStream}
-use Rattle.sequencing.specs.Sequence.{fresh as freshSequenced}
+use Rattle.sequencing.specs.Sequence.{fresh as fresh_sequenced}
 use Rattle.sequencing.specs.declared.SequencingStream.{SequencingStream}
 use Rattle.arranging_plan.specs.Ordered.{States}
-use Rattle.arranging_plan.specs.Gate.{too_short as orderedTooShort}
+use Rattle.arranging_plan.specs.Gate.{too_short as ordered_too_short}
 use Rattle.arranging.specs.declared.sequenced.SequencingStreams.{SequencingStreams}
 use Rattle.arranging_plan.proofs.Gates.{long_enough}
 use Rattle.arranging_laws.specs.Sound.{Whole, WholeIds}
@@ -45,14 +45,14 @@ OrderedItem t = t.next_item.0 < 65536
 
 pub record KeptOrdered (f : ℕ) (s : States) : Type 0 where
   pub whole : Whole f s
-  pub items : (k : ℕ) → OrderedItem (get_or s.counters.streams k freshOrdered)
+  pub items : (k : ℕ) → OrderedItem (get_or s.counters.streams k fresh_ordered)
 
 abbrev pub SequencedItem : SequencingStream → Type 0
 SequencedItem t = t.next_item.0 < 65536
 
 pub record KeptSequenced (s : SequencingStreams) : Type 0 where
   pub ids : WholeIds s.known
-  pub items : (k : ℕ) → SequencedItem (get_or s.streams k freshSequenced)
+  pub items : (k : ℕ) → SequencedItem (get_or s.streams k fresh_sequenced)
 
 pub record Kept (z : Sizes) (s : State) : Type 0 where
   pub acks : Good z s.acks
@@ -61,7 +61,7 @@ pub record Kept (z : Sizes) (s : State) : Type 0 where
   pub sequenced : KeptSequenced s.sequenced
 
 module _ (z : Sizes) (p : Parts) (k : KeptParts z p) where
-  pub table_sound : partsSound z.fragment_size (take z.reassembly_slots p.slots) p.entry ≡ true
+  pub table_sound : parts_sound z.fragment_size (take z.reassembly_slots p.slots) p.entry ≡ true
   unfolding Keeps
   table_sound = kept_sound z.fragment_size z.reassembly_slots (take z.reassembly_slots p.slots) p.entry k.table
 
@@ -70,14 +70,14 @@ module _ (z : Sizes) (p : Parts) (k : KeptParts z p) where
   enough = take_long z.reassembly_slots p.slots k.table.home.long
 
   pub parts_long : (output : List ℕ) → 16 * z.fragment_size + 17 ≤ length output
-      → partsTooShort z.fragment_size z.reassembly_slots p.slots p.entry p.header p.bytes output ≡ false
-  unfolding partsTooShort Keeps
+      → parts_too_short z.fragment_size z.reassembly_slots p.slots p.entry p.header p.bytes output ≡ false
+  unfolding parts_too_short Keeps
   parts_long output h =
       rw
       (le-ltb (length p.slots) z.reassembly_slots enough, le-ltb (length p.entry) z.reassembly_slots k.table.beside, le-ltb (length p.header) z.reassembly_slots k.headers, le-ltb (length p.bytes) (z.reassembly_slots * (16 * z.fragment_size)) k.room, le-ltb (length output) (16 * z.fragment_size + 17) h)
 
 module _ (z : Sizes) (s : State) (r : in_range z ≡ true) (k : Kept z s) (output : List ℕ) (h : 16 * z.fragment_size + 17 ≤ length output) where
-  ordered_long : orderedTooShort z.fragment_size s.ordered.index s.ordered.lengths s.ordered.bytes output ≡ false
+  ordered_long : ordered_too_short z.fragment_size s.ordered.index s.ordered.lengths s.ordered.bytes output ≡ false
   ordered_long =
       let w = k.ordered.whole in
       let b = w.bytes in
@@ -123,13 +123,13 @@ module _ (z : Sizes) (a b c : ℕ) (s : State) (output : List ℕ) (r : in_range
         room = p.bytes_room;
       }
 
-  fresh_ordered : KeptOrdered z.fragment_size S.ordered
-  fresh_ordered =
+  fresh_ordered_lem : KeptOrdered z.fragment_size S.ordered
+  fresh_ordered_lem =
       let p = stored.ordered in
       let l = p.bytes_room in
       record {
         whole = stays_sound.from_none z.fragment_size s.ordered.index s.ordered.lengths s.ordered.bytes (in_range_means z r).f.1 p.index_room p.lengths_room (omega arith);
-        items = replicate_each OrderedItem freshOrdered 4 (omega arith);
+        items = replicate_each OrderedItem fresh_ordered 4 (omega arith);
       }
 
   kept_start : Kept z S
@@ -137,8 +137,8 @@ module _ (z : Sizes) (a b c : ℕ) (s : State) (output : List ℕ) (r : in_range
       record {
         acks = good_fresh z a b s.acks.records s.acks.bytes r acks_lent;
         parts = fresh_parts;
-        ordered = fresh_ordered;
-        sequenced = record { ids = stays_sound.ids_from_none; items = replicate_each SequencedItem freshSequenced 4 (omega arith) };
+        ordered = fresh_ordered_lem;
+        sequenced = record { ids = stays_sound.ids_from_none; items = replicate_each SequencedItem fresh_sequenced 4 (omega arith) };
       }
 
 module _ (z : Sizes) (s : State) (output : List ℕ) (new : New z s output) where

@@ -27,7 +27,7 @@ use Rattle.packet.specs.declared.Read.TheVariants.{Found, Refused as Unread}
 use Rattle.packet_laws.proofs.Theorems.{accepts}
 use Rattle.reassembly_plan.specs.Plan.{slot_of}
 use Rattle.reassembly.specs.Effects.{State as Parts, performed, header_after, bytes_after, room_of}
-use Rattle.reassembly_plan.specs.Gate.{gate_of as partsGate}
+use Rattle.reassembly_plan.specs.Gate.{gate_of as parts_gate}
 use Rattle.reassembly.specs.Call.{decided, handled, stated, restored}
 use Rattle.reassembly_plan.specs.declared.plan.Fragment.{Fragment as FragmentOf}
 use Rattle.reassembly_plan.specs.declared.plan.Plan.{Plan as PartPlan}
@@ -35,17 +35,17 @@ use Rattle.reassembly_plan.specs.declared.plan.Plan.TheVariants.{Refuse as Refus
 use Rattle.reassembly.specs.declared.effects.Answer.{Answer as PartAnswer}
 use Rattle.reassembly.specs.declared.effects.Answer.TheVariants.{Waiting, Whole as IsWhole, Refused as NotJoined}
 use Rattle.fragmenter.proofs.Keeping.{Keeps, kept_call}
-use Rattle.ordering_plan.specs.State.{fresh as freshOrdered}
-use Rattle.ordering_plan.specs.Arrange.{plan_of as itemPlan, arranged}
+use Rattle.ordering_plan.specs.State.{fresh as fresh_ordered}
+use Rattle.ordering_plan.specs.Arrange.{plan_of as item_plan, arranged}
 use Rattle.ordering_plan.specs.declared.Arranged.{Arranged}
 use Rattle.ordering_plan.specs.declared.Arranged.TheVariants.{Out, Held, Old, Refused}
-use Rattle.sequencing.specs.Sequence.{fresh as freshSequenced, sequence_of, topped}
+use Rattle.sequencing.specs.Sequence.{fresh as fresh_sequenced, sequence_of, topped}
 use Rattle.sequencing.specs.declared.Sequenced.{Sequenced as Sequence}
 use Rattle.sequencing.specs.declared.Sequenced.TheVariants.{Out as Newest, Dropped}
 use Rattle.sequencing.specs.declared.SequencingStream.{SequencingStream}
 use Rattle.arranging_plan.specs.Ids.{place_of}
 use Rattle.arranging_plan.specs.Ordered.{States, part, stream_at, state_at, stored_at, plan_on}
-use Rattle.arranging.specs.Sequenced.{arranged_at, stream_at as sequencedAt}
+use Rattle.arranging.specs.Sequenced.{arranged_at, stream_at as sequenced_at}
 use Rattle.arranging_plan.specs.declared.ids.StreamIds.{StreamIds}
 use Rattle.arranging.specs.declared.sequenced.SequencingStreams.{SequencingStreams}
 use Rattle.arranging_plan.proofs.Parts.{place_lt}
@@ -65,8 +65,8 @@ pub ordered_item : (f : ℕ) (s : States) → KeptOrdered f s → (j : ℕ) → 
 unfolding stream_at
 ordered_item f s k j = case (ltb j s.counters.known.made) (λ e. rw e (k.items j)) (λ e. rw e (omega arith))
 
-pub sequenced_item : (s : SequencingStreams) → KeptSequenced s → (j : ℕ) → SequencedItem (sequencedAt s j)
-unfolding sequencedAt
+pub sequenced_item : (s : SequencingStreams) → KeptSequenced s → (j : ℕ) → SequencedItem (sequenced_at s j)
+unfolding sequenced_at
 sequenced_item s k j = case (ltb j s.known.made) (λ e. rw e (k.items j)) (λ e. rw e (omega arith))
 
 -- a place that is not the fifth is one of the four
@@ -91,12 +91,12 @@ module _ (f : ℕ) (s : States) (k : KeptOrdered f s) (id : ℕ) (h : place_of s
   arranged_item (Refused why) i payload = ordered_item f s k J
 
   pub kept_arranged : (a : Arranged) (i : ℕ) (payload : List ℕ) → length payload ≤ f
-      → itemPlan (stream_at s.counters J) (part s.index (J * 64) 64) i ≡ a
+      → item_plan (stream_at s.counters J) (part s.index (J * 64) 64) i ≡ a
       → KeptOrdered f (stored_at f s J id (arranged a f i payload (state_at f s J)))
   kept_arranged a i payload fits e =
       record {
         whole = rw (sym e) (stays_sound.by_arrange f s id i payload k.whole h fits);
-        items = set_each OrderedItem freshOrdered s.counters.streams J (arranged a f i payload (state_at f s J)).stream (arranged_item a i payload) k.items;
+        items = set_each OrderedItem fresh_ordered s.counters.streams J (arranged a f i payload (state_at f s J)).stream (arranged_item a i payload) k.items;
       }
 
 -- an item on a sequenced stream
@@ -109,8 +109,8 @@ pub kept_sequence : (s : SequencingStreams) (k : KeptSequenced s) (id i : ℕ) �
 kept_sequence s k id i h =
     record {
       ids = stays_sound.ids_by_arrange s id (record { 0 = i }) k.ids h;
-      items = set_each SequencedItem freshSequenced s.streams (place_of s.known id) _
-          (topped_item (sequence_of (sequencedAt s (place_of s.known id)) i) (sequencedAt s (place_of s.known id)) i (sequenced_item s k (place_of s.known id)))
+      items = set_each SequencedItem fresh_sequenced s.streams (place_of s.known id) _
+          (topped_item (sequence_of (sequenced_at s (place_of s.known id)) i) (sequenced_at s (place_of s.known id)) i (sequenced_item s k (place_of s.known id)))
           k.items;
     }
 
@@ -126,7 +126,7 @@ module _ (z : Sizes) (h : Headers) (payload : List ℕ) (s : State) (output : Li
   abbrev I : ℕ
   I = h.arranging.stream
 
-  in_order : (a : Arranged) → itemPlan (stream_at s.ordered.counters (place_of s.ordered.counters.known I)) (part s.ordered.index (place_of s.ordered.counters.known I * 64) 64) h.arranging.index.0 ≡ a
+  in_order : (a : Arranged) → item_plan (stream_at s.ordered.counters (place_of s.ordered.counters.known I)) (part s.ordered.index (place_of s.ordered.counters.known I * 64) 64) h.arranging.index.0 ≡ a
       → place_of s.ordered.counters.known I < 4
       → Kept z (packet_as (ordered_as a (record { at = place_of s.ordered.counters.known I; plan = a })) z h payload s output).end
   in_order Out e free = record { acks = heard_good h.standard.delivery; parts = k.parts; ordered = kept_arranged F s.ordered k.ordered I free Out h.arranging.index.0 payload short e; sequenced = k.sequenced }
@@ -149,7 +149,7 @@ module _ (z : Sizes) (h : Headers) (payload : List ℕ) (s : State) (output : Li
       }))
   by_ordering InOrder =
       case (eqb (place_of s.ordered.counters.known I) 4) (λ e. rw e k)
-      (λ e. rw e (in_order (itemPlan (stream_at s.ordered.counters (place_of s.ordered.counters.known I)) (part s.ordered.index (place_of s.ordered.counters.known I * 64) 64) h.arranging.index.0) refl (one_of_four s.ordered.counters.known (ordered_ids F s.ordered k.ordered.whole) I e)))
+      (λ e. rw e (in_order (item_plan (stream_at s.ordered.counters (place_of s.ordered.counters.known I)) (part s.ordered.index (place_of s.ordered.counters.known I * 64) 64) h.arranging.index.0) refl (one_of_four s.ordered.counters.known (ordered_ids F s.ordered k.ordered.whole) I e)))
 
   pub kept_packet : Kept z (packet_of z h payload s output).end
   unfolding plan_of
@@ -159,7 +159,7 @@ module _ (z : Sizes) (h : Headers) (payload : List ℕ) (s : State) (output : Li
 module _ (z : Sizes) (h : Headers) (payload : List ℕ) (p : Parts) (r : in_range z ≡ true) (k : KeptParts z p) (output : List ℕ) (wide : 16 * z.fragment_size + 17 ≤ length output)
     (short : length payload ≤ z.fragment_size) (number : h.fragment.number.0 < 65536) (count : h.fragment.count < 256) where
   decided_is : decided z p output (part_of h) (length payload) ≡ part_plan z p h (length payload)
-  unfolding decided partsGate
+  unfolding decided parts_gate
   decided_is = rw (r, parts_long z p k output wide, table_sound z p k, le-ltb z.fragment_size (length payload) short)
 
   joined_table : (plan : PartPlan) → decided z p output (part_of h) (length payload) ≡ plan

@@ -37,16 +37,16 @@ use Rattle.sequencing.specs.declared.Sequenced.{Sequenced as Sequence}
 use Rattle.sequencing.specs.declared.Sequenced.TheVariants.{Out as Newest, Dropped as Passed}
 use Rattle.arranging_plan.specs.Ids.{place_of}
 use Rattle.arranging_plan.specs.Ordered.{plan_on, next_on}
-use Rattle.arranging.specs.Sequenced.{stream_at as sequencedAt}
+use Rattle.arranging.specs.Sequenced.{stream_at as sequenced_at}
 use Rattle.arranging_plan.specs.declared.ordered.Planned.{Planned}
 use Rattle.ends.specs.State.{State}
 use Rattle.ends.specs.Gate.{gate_of}
 use Rattle.receiving_plan.specs.Plan.{sequenced_plan, sequenced_told, ordered_as, plan_by, plan_of, item_of}
 use Rattle.receiving_fragments.specs.Fragments.{part_of, part_plan, part_slot, parts_after, acks_at_whole, told_part}
-use Rattle.receiving.specs.Receive.{hearing, packet_as, packet_of, fragment_of as partOutcome, by_type, read_as, received_of}
+use Rattle.receiving.specs.Receive.{hearing, packet_as, packet_of, fragment_of as part_outcome, by_type, read_as, received_of}
 use Rattle.receiving_plan.specs.declared.Item.{Item as ReceivedItem}
 use Rattle.receiving_plan.specs.declared.Answer.TheVariants.{Out, Held, Old, Dropped, Waiting, Refused}
-use Rattle.sending.specs.Plan.{plan_of as sendPlan}
+use Rattle.sending.specs.Plan.{plan_of as send_plan}
 use Rattle.sending.specs.Send.{transmitted_as, transmitted_of}
 use Rattle.datagrams.specs.Further.{has_further, further_of, further_output}
 use Rattle.datagrams.specs.declared.Item.{Item as SentItem}
@@ -107,7 +107,7 @@ module _ (z : Sizes) (h : Headers) (payload : List ℕ) (s : State) (output : Li
   by_ordering None = λ e. out_apart It why e
   by_ordering InSequence =
       case (eqb (place_of s.sequenced.known h.arranging.stream) 4) (λ q. rw q (λ e. same s output))
-      (λ q. rw q (λ e. sequenced_apart (sequence_of (sequencedAt s.sequenced (place_of s.sequenced.known h.arranging.stream)) h.arranging.index.0) It why e))
+      (λ q. rw q (λ e. sequenced_apart (sequence_of (sequenced_at s.sequenced (place_of s.sequenced.known h.arranging.stream)) h.arranging.index.0) It why e))
   by_ordering InOrder = in_order (plan_on s.ordered.counters s.ordered.index h.arranging.stream h.arranging.index.0) _ refl
 
   packet_leaves : (packet_of z h payload s output).answer ≡ Refused why → Unchanged s output (packet_of z h payload s output).end (packet_of z h payload s output).output
@@ -152,14 +152,14 @@ module _ (z : Sizes) (s : State) (output : List ℕ) (why : Refusal) where
     abbrev K : ℕ
     K = part_slot z s.parts h
 
-    fragment-alone : (partOutcome z h payload s output).answer ≡ Refused why
-        → PartsAlone s output (partOutcome z h payload s output).end (partOutcome z h payload s output).output
+    fragment-alone : (part_outcome z h payload s output).answer ≡ Refused why
+        → PartsAlone s output (part_outcome z h payload s output).end (part_outcome z h payload s output).output
     fragment-alone e =
         let n = not_heard P K (room_of z.fragment_size K) (parts_after z h payload s.parts).header (parts_after z h payload s.parts).bytes e in
         record { acks_are = n.0; ordered_are = refl; sequenced_are = refl; output_is = n.1 }
 
-    fragment-leaves : (partOutcome z h payload s output).answer ≡ Refused why → (number_of why ≡ 8 → ⊥) → (number_of why ≡ 12 → ⊥)
-        → Unchanged s output (partOutcome z h payload s output).end (partOutcome z h payload s output).output
+    fragment-leaves : (part_outcome z h payload s output).answer ≡ Refused why → (number_of why ≡ 8 → ⊥) → (number_of why ≡ 12 → ⊥)
+        → Unchanged s output (part_outcome z h payload s output).end (part_outcome z h payload s output).output
     fragment-leaves e a b =
         let n = fragment-alone e in
         let q = left P z.fragment_size (part_of h) payload s.parts K (parts_after z h payload s.parts).header e a b in
@@ -248,7 +248,7 @@ module _ (z : Sizes) (s : State) (payload output : List ℕ) (why : Refusal) whe
       → Unchanged s output (transmitted_of z s i payload output).end (transmitted_of z s i payload output).output
   unfolding transmitted_of
   transmitted_leaves i =
-      plan_leaves (sendPlan z s.acks.counters.sequence_number.0 s.ordered.counters s.sequenced (table_of z s.acks.number) i (length payload)) i
+      plan_leaves (send_plan z s.acks.counters.sequence_number.0 s.ordered.counters s.sequenced (table_of z s.acks.number) i (length payload)) i
 
   send_leaves : (delivery : DeliveryGuarantee) (ordering : OrderingGuarantee) (stream : ℕ) → (send_of z s delivery ordering stream payload output).answer ≡ NotSent why
       → Unchanged s output (send_of z s delivery ordering stream payload output).end (send_of z s delivery ordering stream payload output).output

@@ -21,11 +21,11 @@ use Rattle.packet_table.specs.declared.DeliveryGuarantee.{DeliveryGuarantee}
 use Rattle.packet_table.specs.declared.DeliveryGuarantee.TheVariants.{Unreliable, Reliable}
 use Rattle.packet_table.specs.declared.OrderingGuarantee.{OrderingGuarantee}
 use Rattle.packet_table.specs.declared.OrderingGuarantee.TheVariants.{None, Sequenced, Ordered}
-use Rattle.ordering_plan.specs.State.{fresh as freshOrdered}
-use Rattle.sequencing.specs.Sequence.{fresh as freshSequenced}
+use Rattle.ordering_plan.specs.State.{fresh as fresh_ordered}
+use Rattle.sequencing.specs.Sequence.{fresh as fresh_sequenced}
 use Rattle.arranging_plan.specs.Ids.{place_of}
 use Rattle.arranging_plan.specs.Ordered.{States, lending_all, stream_at, state_at, stored_at}
-use Rattle.arranging.specs.Sequenced.{stream_at as sequencedAt}
+use Rattle.arranging.specs.Sequenced.{stream_at as sequenced_at}
 use Rattle.arranging.specs.declared.sequenced.SequencingStreams.{SequencingStreams}
 use Rattle.arranging_plan.proofs.Parts.{block_end, part_length}
 use Rattle.arranging.proofs.Kept.{put_same}
@@ -74,9 +74,9 @@ module _ (f : ℕ) (s : States) (k : KeptOrdered f s) (id : ℕ) where
     ordered-whole Next = stays_sound.by_send f s id k.whole h
     ordered-whole (Again item) = rw (sym (again-is item)) (stored_whole f s k.whole id h (state_at f s J) as_it_was)
 
-    ordered-items : (t : Identifier) (m : ℕ) → OrderedItem (get_or (ordered_as t s.counters J id).streams.streams m freshOrdered)
-    ordered-items Next = set_each OrderedItem freshOrdered s.counters.streams J _ (mod-lt ((stream_at s.counters J).next_item.0 + 1) {m = 65536} (omega arith)) k.items
-    ordered-items (Again item) = set_each OrderedItem freshOrdered s.counters.streams J (stream_at s.counters J) (ordered_item f s k J) k.items
+    ordered-items : (t : Identifier) (m : ℕ) → OrderedItem (get_or (ordered_as t s.counters J id).streams.streams m fresh_ordered)
+    ordered-items Next = set_each OrderedItem fresh_ordered s.counters.streams J _ (mod-lt ((stream_at s.counters J).next_item.0 + 1) {m = 65536} (omega arith)) k.items
+    ordered-items (Again item) = set_each OrderedItem fresh_ordered s.counters.streams J (stream_at s.counters J) (ordered_item f s k J) k.items
 
     ordered-kept : (t : Identifier) → KeptOrdered f (lending_all (ordered_as t s.counters J id).streams s.index s.lengths s.bytes)
     ordered-kept t = record { whole = ordered-whole t; items = ordered-items t }
@@ -94,12 +94,12 @@ module _ (s : SequencingStreams) (k : KeptSequenced s) (id : ℕ) where
   sequenced_kept h Next =
       record {
         ids = stays_sound.ids_by_send s id k.ids h;
-        items = set_each SequencedItem freshSequenced s.streams I _ (mod-lt ((sequencedAt s I).next_item.0 + 1) {m = 65536} (omega arith)) k.items;
+        items = set_each SequencedItem fresh_sequenced s.streams I _ (mod-lt ((sequenced_at s I).next_item.0 + 1) {m = 65536} (omega arith)) k.items;
       }
   sequenced_kept h (Again item) =
       record {
         ids = stays_sound.ids_by_send s id k.ids h;
-        items = set_each SequencedItem freshSequenced s.streams I (sequencedAt s I) (sequenced_item s k I) k.items;
+        items = set_each SequencedItem fresh_sequenced s.streams I (sequenced_at s I) (sequenced_item s k I) k.items;
       }
 
 ordering_byte : (o : OrderingGuarantee) → ordering_number o < 256

@@ -22,8 +22,8 @@ use Rattle.acknowledgment_laws.proofs.Unbroken.{good_drop}
 use Rattle.packet_table.specs.Numbers.{Bytes}
 use Rattle.packet_table.specs.declared.DeliveryGuarantee.{DeliveryGuarantee}
 use Rattle.packet_table.specs.declared.OrderingGuarantee.{OrderingGuarantee}
-use Rattle.reassembly_plan.specs.Gate.{too_short as partsTooShort}
-use Rattle.ordering_plan.specs.State.{fresh as freshOrdered}
+use Rattle.reassembly_plan.specs.Gate.{too_short as parts_too_short}
+use Rattle.ordering_plan.specs.State.{fresh as fresh_ordered}
 use Rattle.ordering.specs.declared.Taken.{Taken}
 use Rattle.ordering.specs.declared.Taken.TheVariants.{Item, Nothing, Refused as NotTaken}
 use Rattle.arranging_plan.specs.Ids.{place_of}
@@ -45,9 +45,9 @@ use Rattle.link_laws.proofs.Send.{Narrow, kept_transmitted}
 use Rattle.link_laws.proofs.Answers.{through_open}
 
 -- the item that is expected on an ordered stream is taken
-taken_items : (f : ℕ) (s : States) (k : KeptOrdered f s) (id : ℕ) (t : Taken) (m : ℕ) → OrderedItem (get_or (taken_on t f id s).counters.streams m freshOrdered)
+taken_items : (f : ℕ) (s : States) (k : KeptOrdered f s) (id : ℕ) (t : Taken) (m : ℕ) → OrderedItem (get_or (taken_on t f id s).counters.streams m fresh_ordered)
 taken_items f s k id (Item n) =
-    set_each OrderedItem freshOrdered s.counters.streams (place_of s.counters.known id) _ (ordered_item f s k (place_of s.counters.known id)) k.items
+    set_each OrderedItem fresh_ordered s.counters.streams (place_of s.counters.known id) _ (ordered_item f s k (place_of s.counters.known id)) k.items
 taken_items f s k id Nothing = k.items
 taken_items f s k id (NotTaken why) = k.items
 
@@ -133,7 +133,7 @@ module _ (z : Sizes) (received number records payloads slots entry header joined
   Emptied = lending fresh_end (fresh (length received)) (fresh (length number)) records payloads (fresh (length slots)) entry header joined index lengths held
 
   same_lent : is_lent z Emptied output ≡ is_lent z Given output
-  unfolding is_lent lent flight_lent partsTooShort
+  unfolding is_lent lent flight_lent parts_too_short
   same_lent = rw (length-replicate (length received) none, length-replicate (length number) none, length-replicate (length slots) none)
 
   emptied_new : in_range z ≡ true → is_lent z Given output ≡ true → New z Emptied output

@@ -23,11 +23,11 @@ use Rattle.reassembly.specs.Call.{decided, handled}
 use Rattle.reassembly_plan.specs.declared.plan.Fragment.{Fragment}
 use Rattle.reassembly.specs.declared.effects.Answer.{Answer}
 use Rattle.reassembly.specs.declared.effects.Answer.TheVariants.{Waiting, Whole, Refused}
-use Rattle.ordering_plan.specs.State.{fresh as freshStream}
+use Rattle.ordering_plan.specs.State.{fresh as fresh_stream}
 use Rattle.ordering_plan.specs.Arrange.{plan_of}
 use Rattle.ordering_plan.specs.declared.Arranged.{Arranged}
 use Rattle.ordering_plan.specs.declared.Arranged.TheVariants.{Out, Held, Old, Refused as NotArranged}
-use Rattle.sequencing.specs.Sequence.{fresh as freshSequence, sequence_of, topped}
+use Rattle.sequencing.specs.Sequence.{fresh as fresh_sequence, sequence_of, topped}
 use Rattle.sequencing.specs.declared.SequencingStream.{SequencingStream}
 use Rattle.sequencing.specs.declared.Sequenced.{Sequenced}
 use Rattle.sequencing.specs.declared.Sequenced.TheVariants.{Out as SequencedOut, Dropped}
@@ -163,9 +163,9 @@ holds (leaves acked field ns left) = same (numbers (numbers_in (map (emptied (is
 holds (drops remote ns list) = same (dropped (length ns + 1) remote (flying ns)) list
 holds (cuts f n lengths) = same (map length (pieces f (replicate n 0))) lengths
 holds (splits f m n answer) = eqb (split_number (split_of (sizes f m) n)) answer
-holds (waits i) = is_held (plan_of freshStream (replicate 64 0) i)
-holds (is_old i) = is_past (plan_of freshStream (replicate 64 0) i)
-holds (all_out is) = all_go_out freshSequence is
+holds (waits i) = is_held (plan_of fresh_stream (replicate 64 0) i)
+holds (is_old i) = is_past (plan_of fresh_stream (replicate 64 0) i)
+holds (all_out is) = all_go_out fresh_sequence is
 holds (joins count g gs message) = same (joined count fresh_table g gs) message
 holds (joins_not count g gs answer) = same (joined count fresh_table g gs) (answer ∷ [])
 

@@ -1,7 +1,7 @@
 // For the crates above: what is to become of a fragment that has come. Nothing is written before every check of a call is
 // done, so judging is a function of its own, which answers a plan.
 ghost use Rattle.std.specs.Prelude.{◌≡◌, ◌≤◌, ◌<◌, ◌+◌, length};
-ghost use Rattle.reassembly_plan.specs.Plan.{place_of, grown, passed as hasPassed, found as foundEntry, judged, plan_of};
+ghost use Rattle.reassembly_plan.specs.Plan.{place_of, grown, passed as has_passed, found as found_entry, judged, plan_of};
 ghost use Rattle.reassembly_plan.specs.Table.{Growing};
 
 use crate::words::{AckHeader, Entry};
@@ -63,7 +63,7 @@ pub fn judge(
 // No entry has the number, and it is too old for one.
 fn passed(there: bool, sequence_num: PacketNumber, slots: &[u32], number: PacketNumber) -> bool
     requires { (1 ≤ length slots.now) × (length slots.now ≤ 64) }
-    ensures { result ≡ hasPassed there sequence_num.0 slots.now number.0 }
+    ensures { result ≡ has_passed there sequence_num.0 slots.now number.0 }
 {
     if there {
         return false;
@@ -74,7 +74,7 @@ fn passed(there: bool, sequence_num: PacketNumber, slots: &[u32], number: Packet
 // The entry of a fragment, as it stands in its slot or as it is made.
 fn found(there: bool, entry: &[u64], at: usize, count: u8) -> Entry
     requires { at < length entry.now }
-    ensures { result ≡ foundEntry there entry.now at count }
+    ensures { result ≡ found_entry there entry.now at count }
 {
     if there {
         return Entry::unpack(entry[at]);

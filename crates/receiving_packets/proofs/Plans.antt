@@ -13,7 +13,7 @@ use Rattle.packet_table.specs.declared.Headers.{Headers}
 use Rattle.packet_table.specs.declared.ArrangingHeader.{ArrangingHeader}
 use Rattle.packet_table.specs.declared.OrderingGuarantee.{OrderingGuarantee}
 use Rattle.packet_table.specs.declared.OrderingGuarantee.TheVariants.{None, Sequenced as InSequence, Ordered as InOrder}
-use Rattle.ordering_plan.specs.Arrange.{plan_of as itemPlan}
+use Rattle.ordering_plan.specs.Arrange.{plan_of as item_plan}
 use Rattle.ordering_plan.specs.declared.Arranged.{Arranged}
 use Rattle.ordering_plan.specs.declared.Arranged.TheVariants.{Out as GoesOut, Held as IsHeld, Old as IsOld, Refused as IsRefused}
 use Rattle.arranging_plan.specs.Ids.{place_of}
@@ -65,7 +65,7 @@ module _ (o : OrderingStreams) (index : List ℕ) (s : SequencingStreams) (i : A
   sequenced_by_lem InOrder q few e = absurd (ordered_apart (plan_on o index i.stream i.index.0).plan _ q e)
 
   ordered_at : (p : Planned) → o.known.made ≤ 4 → ordered_plan (plan_on o index i.stream i.index.0) ≡ Ordered p
-      → (p.at < 4) × (p.plan ≡ itemPlan (stream_at o p.at) (part index (p.at * 64) 64) i.index.0)
+      → (p.at < 4) × (p.plan ≡ item_plan (stream_at o p.at) (part index (p.at * 64) 64) i.index.0)
   ordered_at p few e =
       let w = carried (plan_on o index i.stream i.index.0).plan (plan_on o index i.stream i.index.0) p e in
       let a = accepted (lending_all o index [] []) i.stream i.index.0 w.1 in
@@ -79,7 +79,7 @@ module _ (o : OrderingStreams) (index : List ℕ) (s : SequencingStreams) (i : A
       (λ t. let w = rw t at e in let z : ◌≡◌ {A = ℕ} 0 1 = cc in omega arith)
 
   ordered_by_lem : (g : OrderingGuarantee) (p : Planned) → o.known.made ≤ 4 → plan_by g i o index s ≡ Ordered p
-      → (p.at < 4) × (p.plan ≡ itemPlan (stream_at o p.at) (part index (p.at * 64) 64) i.index.0)
+      → (p.at < 4) × (p.plan ≡ item_plan (stream_at o p.at) (part index (p.at * 64) 64) i.index.0)
   ordered_by_lem None p few e = absurd (let z : ◌≡◌ {A = ℕ} 0 1 = cc in omega arith)
   ordered_by_lem InSequence p few e = absurd (sequenced_no p e)
   ordered_by_lem InOrder p few e = ordered_at p few e

@@ -6,7 +6,7 @@ use Rattle.received.specs.Record.{slot_count}
 use Rattle.acks.specs.declared.Acknowledgment.{Acknowledgment}
 use Rattle.packet_table.specs.declared.Headers.{Headers}
 use Rattle.packet_table.specs.declared.ArrangingHeader.{ArrangingHeader}
-use Rattle.ordering_plan.specs.Arrange.{arranged, plan_of as itemPlan}
+use Rattle.ordering_plan.specs.Arrange.{arranged, plan_of as item_plan}
 use Rattle.arranging_plan.specs.Ordered.{States, lending_all, RoomForAll, state_at, stored_at, stream_at, part}
 use Rattle.arranging.specs.Sequenced.{arranged_at}
 use Rattle.arranging_plan.specs.declared.ordered.Planned.{Planned}
@@ -85,4 +85,4 @@ SequencedReady plan s = (q : Sequencing) → plan ≡ Sequenced q → (q.at < 4)
 
 abbrev pub OrderedReady : Plan → OrderingStreams → List ℕ → ArrangingHeader → Type 0
 OrderedReady plan s index i =
-    (p : Planned) → plan ≡ Ordered p → (p.at < 4) × (p.plan ≡ itemPlan (stream_at s p.at) (part index (p.at * 64) 64) i.index.0)
+    (p : Planned) → plan ≡ Ordered p → (p.at < 4) × (p.plan ≡ item_plan (stream_at s p.at) (part index (p.at * 64) 64) i.index.0)

@@ -10,7 +10,7 @@ use Rattle.packet_table.specs.declared.OrderingGuarantee.{OrderingGuarantee}
 use Rattle.packet_table.specs.declared.OrderingGuarantee.TheVariants.{None, Sequenced, Ordered}
 use Rattle.splitter.specs.Split.{needed}
 use Rattle.flight.specs.Entry.{numbers_in}
-use Rattle.flight.specs.Places.{place_of as placeInFlight, full}
+use Rattle.flight.specs.Places.{place_of as place_in_flight, full}
 use Rattle.arranging_plan.specs.Ids.{place_of}
 use Rattle.arranging_plan.specs.declared.ordered.OrderingStreams.{OrderingStreams}
 use Rattle.arranging.specs.declared.sequenced.SequencingStreams.{SequencingStreams}
@@ -48,7 +48,7 @@ is_full Reliable n number = full n (numbers_in number)
 
 abbrev pub flight_place : DeliveryGuarantee → ℕ → List ℕ → ℕ
 flight_place Unreliable n number = 0
-flight_place Reliable n number = placeInFlight n (numbers_in number)
+flight_place Reliable n number = place_in_flight n (numbers_in number)
 
 -- n is the local number, `number` the N places in flight
 unfoldable pub plan_of : Sizes → ℕ → OrderingStreams → SequencingStreams → List ℕ → Item → ℕ → Plan

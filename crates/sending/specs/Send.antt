@@ -18,9 +18,9 @@ use Rattle.packet_table.specs.declared.OrderingGuarantee.{OrderingGuarantee}
 use Rattle.packet_table.specs.declared.OrderingGuarantee.TheVariants.{None, Sequenced, Ordered}
 use Rattle.splitter.specs.Split.{needed}
 use Rattle.arranging_plan.specs.Ids.{made_at}
-use Rattle.arranging_plan.specs.Ordered.{stream_at as orderedAt}
-use Rattle.arranging.specs.Steps.{numbered_at as numberedOrdered}
-use Rattle.arranging.specs.Sequenced.{stream_at as sequencedAt, stored_at, numbered_at as numberedSequenced}
+use Rattle.arranging_plan.specs.Ordered.{stream_at as ordered_at}
+use Rattle.arranging.specs.Steps.{numbered_at as numbered_ordered}
+use Rattle.arranging.specs.Sequenced.{stream_at as sequenced_at, stored_at, numbered_at as numbered_sequenced}
 use Rattle.arranging_plan.specs.declared.ordered.OrderingStreams.{OrderingStreams}
 use Rattle.arranging.specs.declared.ordered.NewItem.{NewItem as NewOrdered}
 use Rattle.arranging.specs.declared.sequenced.SequencingStreams.{SequencingStreams}
@@ -44,13 +44,13 @@ use Rattle.sending.specs.declared.plan.Plan.TheVariants.{Refuse, Send}
 -- "each sending stream numbers its own items from 0, adding one with wrap-around at each accepted send that is no resend"; either
 -- way a stream is made by its first accepted item
 abbrev pub sequenced_as : Identifier → SequencingStreams → ℕ → ℕ → NewSequenced
-sequenced_as Next s j id = numberedSequenced s j id
-sequenced_as (Again item) s j id = record { item = item; streams = stored_at s j id (sequencedAt s j) }
+sequenced_as Next s j id = numbered_sequenced s j id
+sequenced_as (Again item) s j id = record { item = item; streams = stored_at s j id (sequenced_at s j) }
 
 abbrev pub ordered_as : Identifier → OrderingStreams → ℕ → ℕ → NewOrdered
-ordered_as Next s j id = numberedOrdered s j id
+ordered_as Next s j id = numbered_ordered s j id
 ordered_as (Again item) s j id =
-    record { item = item; streams = record { known = made_at s.known j id; streams = set s.streams j (orderedAt s j) } }
+    record { item = item; streams = record { known = made_at s.known j id; streams = set s.streams j (ordered_at s j) } }
 
 abbrev pub identified_by : OrderingGuarantee → Item → ℕ → OrderingStreams → SequencingStreams → Identified
 identified_by None i j ordered sequenced = record { item = record { 0 = 0 }; ordering = ordered; sequencing = sequenced }

@@ -9,8 +9,8 @@ use lib.ListN.{take}
 use lib.Seq.{length-take-le}
 use Rattle.laws.proofs.Cases.{on, off}
 use Rattle.terms.proofs.Ranges.{InRange, in_range_means}
-use Rattle.acks.specs.Gate.{sound as acksSound}
-use Rattle.reassembly_plan.specs.Gate.{sound as partsSound}
+use Rattle.acks.specs.Gate.{sound as acks_sound}
+use Rattle.reassembly_plan.specs.Gate.{sound as parts_sound}
 use Rattle.arranging_plan.specs.Ordered.{sound_all}
 use Rattle.ends.specs.State.{State, lending}
 use Rattle.ends.proofs.Rungs.{none_received, sound_acks, sound_parts, sound_ordered, sound_sequenced}
@@ -21,13 +21,13 @@ whole c = lending c.args.end [] c.args.number.now [] [] c.args.slots.now c.args.
 ranges : (c : tie.Start) → InRange c.args.sizes
 ranges c = in_range_means c.args.sizes c.requires.0
 
-flown : (c : tie.After-is-flight-sound) → acksSound c.before.before.before.before.before.before.args.sizes [] c.before.before.before.before.before.before.args.number.now ≡ c.is-flight-sound.result
+flown : (c : tie.After-is-flight-sound) → acks_sound c.before.before.before.before.before.before.args.sizes [] c.before.before.before.before.before.before.args.number.now ≡ c.is-flight-sound.result
 flown c = none_received c.before.before.before.before.before.before.args.sizes c.before.before.before.before.before.before.args.number.now ∙ sym c.is-flight-sound.ensures
 
-acks : (c : tie.Else1) → acksSound c.before.before.before.before.before.before.before.args.sizes [] c.before.before.before.before.before.before.before.args.number.now ≡ true
+acks : (c : tie.Else1) → acks_sound c.before.before.before.before.before.before.before.args.sizes [] c.before.before.before.before.before.before.before.args.number.now ≡ true
 acks c = flown c.before ∙ on c.before.is-flight-sound.result c.if1.false
 
-parts : (c : tie.Else2) → partsSound c.before.before.before.before.before.before.before.before.before.before.args.sizes.fragment_size (take c.before.before.before.before.before.before.before.before.before.before.args.sizes.reassembly_slots c.before.before.before.before.before.before.before.before.before.before.args.slots.now) c.before.before.before.before.before.before.before.before.before.before.args.entry.now ≡ true
+parts : (c : tie.Else2) → parts_sound c.before.before.before.before.before.before.before.before.before.before.args.sizes.fragment_size (take c.before.before.before.before.before.before.before.before.before.before.args.sizes.reassembly_slots c.before.before.before.before.before.before.before.before.before.before.args.slots.now) c.before.before.before.before.before.before.before.before.before.before.args.entry.now ≡ true
 parts c = sym c.before.sound.ensures ∙ on c.before.sound.result c.if2.false
 
 ordered : (c : tie.Else3) → sound_all c.before.before.before.before.before.before.before.before.before.before.before.before.args.sizes.fragment_size c.before.before.before.before.before.before.before.before.before.before.before.before.args.end.ordering c.before.before.before.before.before.before.before.before.before.before.before.before.args.index.now c.before.before.before.before.before.before.before.before.before.before.before.before.args.lengths.now ≡ true
