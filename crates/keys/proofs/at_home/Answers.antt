@@ -24,8 +24,8 @@ returns-then-key-keys c = λ e. both e refl
 
 pub loop-i-preserved : goal.loop-i-preserved
 loop-i-preserved c =
-    let l = c.before.before.before.loop-i in
-    let keys = c.before.before.before.before.before.before.args.keys.now in
+    let l = c.loop-i in
+    let keys = c.args.keys.now in
     let home : ℕ → Type 0 = λ (j : ℕ). get_or keys j 0 < 65536 → get_or keys j 0 % length keys ≡ j in
     ⊎_elim
     (λ w. (omega arith, below_more home l.i l.invariant.1 (λ k. w.if-key-keys.false)))
@@ -34,6 +34,6 @@ loop-i-preserved c =
 
 pub returns : goal.returns
 returns c =
-    let keys = c.before.before.before.before.args.keys.now in
-    let home = c.before.loop-i.invariant.1 in
+    let keys = c.args.keys.now in
+    let home = c.loop-i.invariant.1 in
     λ e. home_once keys (record { own = λ j h. home j (omega arith) })

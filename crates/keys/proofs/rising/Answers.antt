@@ -16,8 +16,8 @@ returns-then-keys-i c = λ e. both e refl
 
 pub loop-i-preserved : goal.loop-i-preserved
 loop-i-preserved c =
-    let l = c.before.before.before.before.loop-i in
-    let keys = c.before.before.before.before.before.args.keys.now in
+    let l = c.loop-i in
+    let keys = c.args.keys.now in
     let up : get_or keys (l.i - 1) 0 < get_or keys l.i 0 = c.if-keys-i.false in (
       omega arith,
       below_more (λ (j : ℕ). (k : ℕ) → k < j → get_or keys k 0 < get_or keys j 0) l.i l.invariant.1
@@ -29,5 +29,5 @@ loop-i-preserved c =
 
 pub returns : goal.returns
 returns c =
-    let up = c.before.loop-i.invariant.1 in
-    λ e. all_apart c.before.before.args.keys.now (λ i j before within key same. omega (arith, up j (omega arith) i before))
+    let up = c.loop-i.invariant.1 in
+    λ e. all_apart c.args.keys.now (λ i j before within key same. omega (arith, up j (omega arith) i before))

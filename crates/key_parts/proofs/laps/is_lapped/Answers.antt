@@ -6,7 +6,7 @@ use Rattle.key_parts.proofs.laps.is_lapped.Goals as goal
 
 pub loop-k-init : goal.loop-k-init
 loop-k-init c =
-    let keys = c.before.before.before.args.keys.now in
+    let keys = c.args.keys.now in
     let shift = c.wrapping_sub_u32-shift.result in
     let first : InLap 0 ((get_or keys 0 0 + shift) % 4294967296) =
     record { laps = 15; few = omega arith; is = omega (arith, c.wrapping_sub_u32-shift.ensures.value) } in (
@@ -17,22 +17,22 @@ loop-k-init c =
 
 pub loop-k-preserved : goal.loop-k-preserved
 loop-k-preserved c =
-    let l = c.before.before.before.before.loop-k in
-    let keys = c.before.before.before.before.before.before.before.before.args.keys.now in
-    let shift = c.before.before.before.before.before.wrapping_sub_u32-shift.result in
+    let l = c.loop-k in
+    let keys = c.args.keys.now in
+    let shift = c.wrapping_sub_u32-shift.result in
     let o = c.oddity-odd.result in (
       omega arith,
       below_more (λ (j : ℕ). _ → _ → InLap j ((get_or keys j 0 + shift) % 4294967296)) l.k
           (λ j h e z. l.invariant.1 j h (or_parts l.odd o e z).0.0 (or_parts l.odd o e z).0.1)
-          (λ e z. rw (← c.before.wrapping_add_u32.ensures.value) (c.oddity-odd.ensures (or_parts l.odd o e z).1.0 (or_parts l.odd o e z).1.1)),
+          (λ e z. rw (← c.wrapping_add_u32.ensures.value) (c.oddity-odd.ensures (or_parts l.odd o e z).1.0 (or_parts l.odd o e z).1.1)),
     )
 
 pub returns-then-odd-eq0 : goal.returns-then-odd-eq0
 returns-then-odd-eq0 c =
     let s = c.before.before.before.before.before.before in
-    let l = c.before.before.loop-k in
+    let l = c.loop-k in
     let told : (ltb l.odd 1024 ≡ true) → Lapped s.args.keys.now = λ e.
-    lapped s.args.keys.now c.before.before.before.wrapping_sub_u32-shift.result (omega (arith, c.before.before.before.wrapping_sub_u32-shift.ensures.value))
+    lapped s.args.keys.now c.wrapping_sub_u32-shift.result (omega (arith, c.wrapping_sub_u32-shift.ensures.value))
     (λ j h. l.invariant.1 j (omega arith) c.if-odd-eq0.true (ltb-true l.odd 1024 e)) in
     record { keys_value = λ e. lapped_once s.args.keys.now s.requires (told e); lapped = told }
 

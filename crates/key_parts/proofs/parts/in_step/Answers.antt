@@ -9,8 +9,8 @@ loop-k-init c = (omega arith, λ j h. absurd (not-suc-le-zero h))
 
 pub loop-k-preserved : goal.loop-k-preserved
 loop-k-preserved c =
-    let l = c.before.before.before.loop-k in
-    let a = c.before.before.before.before.before.args in
+    let l = c.loop-k in
+    let a = c.args in
     let u = c.unless-all.result in (
       omega arith,
       below_more (λ (j : ℕ). _ → Placed a.room a.lap a.last (a.at + j) (get_or a.words.now (a.at + j) 0)) l.k
@@ -19,4 +19,4 @@ loop-k-preserved c =
     )
 
 pub returns : goal.returns
-returns c = λ e k h. c.before.loop-k.invariant.1 k (omega arith) (leb-true 2147483648 c.before.loop-k.all e)
+returns c = λ e k h. c.loop-k.invariant.1 k (omega arith) (leb-true 2147483648 c.loop-k.all e)

@@ -8,8 +8,8 @@ loop-k-init c = (omega arith, λ j h. absurd (not-suc-le-zero h))
 
 pub loop-k-preserved : goal.loop-k-preserved
 loop-k-preserved c =
-    let l = c.before.before.loop-k in
-    let a = c.before.before.before.args in
+    let l = c.loop-k in
+    let a = c.args in
     let e = get_or a.words.now (a.at + l.k) 0 in (
       omega arith,
       below_more (λ (j : ℕ). _ ≤ get_or a.words.now (a.at + j) 0) l.k
@@ -18,4 +18,4 @@ loop-k-preserved c =
     )
 
 pub returns : goal.returns
-returns c = λ e k h. omega (arith, c.before.loop-k.invariant.1 k (omega arith), leb-true 2147483648 c.before.loop-k.all e)
+returns c = λ e k h. omega (arith, c.loop-k.invariant.1 k (omega arith), leb-true 2147483648 c.loop-k.all e)

@@ -29,8 +29,8 @@ length_of_lem word place first even =
 
 pub returns : goal.returns
 returns c =
-    let a = c.before.args in
-    let p = c.before.requires in
+    let a = c.args in
+    let p = c.requires in
     λ h k.
     let low = xor_lt 31 a.word a.place k (omega arith) in
     let differ = xor_lt 31 (bit_xor a.word a.place) (a.first * 32768) low (omega arith) in

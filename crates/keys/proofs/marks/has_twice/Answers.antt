@@ -15,16 +15,16 @@ loop-i-init c =
 
 pub returns-then-seen-word-eq1 : goal.returns-then-seen-word-eq1
 returns-then-seen-word-eq1 c =
-    let keys = c.before.before.before.before.before.args.keys.now in
-    let l = c.before.before.before.before.loop-i in
+    let keys = c.args.keys.now in
+    let l = c.loop-i in
     let h : l.i < length keys = omega arith in
-    let key : get_or keys l.i 0 < 65536 = c.before.if-key-lt65536.true in
+    let key : get_or keys l.i 0 < 65536 = c.if-key-lt65536.true in
     sym (again keys l.i h key (seen_bit l.seen keys l.i h l.invariant.2 key ∙ eq-eqb _ _ c.if-seen-word-eq1.true))
 
 pub loop-i-preserved : goal.loop-i-preserved
 loop-i-preserved c =
-    let keys = c.before.before.before.before.args.keys.now in
-    let l = c.before.before.before.loop-i in
+    let keys = c.args.keys.now in
+    let l = c.loop-i in
     let v = get_or keys l.i 0 in
     let h : l.i < length keys = omega arith in
     ⊎_elim
@@ -45,4 +45,4 @@ loop-i-preserved c =
     c.if-key-lt65536.branch-raw
 
 pub returns : goal.returns
-returns c = sym (single_all c.before.before.args.keys.now c.before.loop-i.i (omega arith) c.before.loop-i.invariant.3)
+returns c = sym (single_all c.args.keys.now c.loop-i.i (omega arith) c.loop-i.invariant.3)

@@ -15,8 +15,8 @@ loop-k-init c = (omega arith, λ j h. absurd (not-suc-le-zero h))
 
 pub loop-k-preserved : goal.loop-k-preserved
 loop-k-preserved c =
-    let l = c.before.before.before.loop-k in
-    let keys = c.before.before.before.before.before.args.keys.now in
+    let l = c.loop-k in
+    let keys = c.args.keys.now in
     let u = c.unless_home-all.result in (
       omega arith,
       below_more (λ (j : ℕ). _ → get_or keys j 0 < 65536 → get_or keys j 0 % 33 ≡ j) l.k
@@ -33,5 +33,5 @@ returns c =
     (record {
       own = λ j h key.
           subst (λ (n : ℕ). get_or keys j 0 % n ≡ j) (sym s.requires)
-          (c.before.loop-k.invariant.1 j (omega arith) (leb-true 65536 c.before.loop-k.all e) key);
+          (c.loop-k.invariant.1 j (omega arith) (leb-true 65536 c.loop-k.all e) key);
     })
