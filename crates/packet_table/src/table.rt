@@ -155,6 +155,7 @@ pub fn type_number(packet_type: PacketType) -> u8
     }
 }
 
+#[tactic(auto, unfolding(crate::specs::Table::type_of))]
 pub fn type_of(number: u8) -> PacketType
     ensures { result ≡ type_of number }
 {
@@ -174,6 +175,7 @@ pub fn delivery_number(delivery: DeliveryGuarantee) -> u8
     }
 }
 
+#[tactic(auto, unfolding(crate::specs::Table::delivery_of))]
 pub fn delivery_of(number: u8) -> DeliveryGuarantee
     ensures { result ≡ delivery_of number }
 {
@@ -193,6 +195,7 @@ pub fn ordering_number(ordering: OrderingGuarantee) -> u8
     }
 }
 
+#[tactic(auto, unfolding(crate::specs::Table::ordering_of))]
 pub fn ordering_of(number: u8) -> OrderingGuarantee
     ensures { result ≡ ordering_of number }
 {

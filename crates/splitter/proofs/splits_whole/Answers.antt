@@ -1,0 +1,6 @@
+-- The theorem is `splits`.
+use Rattle.splitter.proofs.Pieces.{splits}
+use Rattle.splitter.proofs.splits_whole.Goals as goal
+
+pub returns : goal.returns
+returns c = splits
