@@ -46,6 +46,3 @@ pub copied_out : (d out : List ℕ) (at n : ℕ)
     → take (length (take (at + n - at) (drop at d))) (take (at + n - at) (drop at d)) ++ drop (length (take (at + n - at) (drop at d))) out
     ≡ take n (drop at d) ++ drop (length (take n (drop at d))) out
 copied_out d out at n = rw (add-sub_cancel_left, take-length)
-
-pub part_length : (s : List ℕ) (a n : ℕ) → a + n ≤ length s → length (take (a + n - a) (drop a s)) ≡ n
-part_length s a n h = rw add-sub_cancel_left (length-take-le n (drop a s) (rw (length-drop a s) (omega arith)))

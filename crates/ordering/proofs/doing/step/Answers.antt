@@ -1,0 +1,5 @@
+use Rattle.serial.proofs.Items.{named}
+use Rattle.ordering.proofs.doing.step.Goals as goal
+
+pub returns : goal.returns
+returns c = rw (named c.successor.result _ c.successor.ensures)
