@@ -17,6 +17,7 @@ use terms::Refusal;
 
 // The datagram of these headers and this payload, at the start of the output; the bytes after it stay.
 // 4 comes before 2: a combination that is not listed has no length to judge the output by.
+#[tactic(auto, unfolding(crate::specs::Build::build_of))]
 pub fn build(version: u16, headers: Headers, payload: &[u8], output: &mut [u8]) -> Built
     ensures { Builds version headers payload.now output.old result output.new }
 {
@@ -69,6 +70,7 @@ fn write_standard_header(version: u16, standard: StandardHeader, output: &mut [u
 }
 
 // The headers after the standard one, each where the one before it ends.
+#[tactic(auto, unfolding(packet_table::specs::Layout::following_bytes))]
 fn write_following(following: Following, headers: Headers, output: &mut [u8])
     requires { payload_at following headers.fragment.id ≤ length output.old }
     ensures { output.new ≡ written 5 (following_bytes following headers) output.old }

@@ -45,6 +45,7 @@ pub fn read_headers(version: u16, datagram: &[u8]) -> Read
 }
 
 // The headers after the standard one, each where the one before it ends.
+#[tactic(auto, unfolding(crate::specs::Read::following_read, crate::specs::Read::headers_of))]
 fn read_following(datagram: &[u8], standard: StandardHeader, following: Following) -> Read
     requires { 5 ≤ length datagram.now }
     ensures { result ≡ following_read standard following datagram.now }
