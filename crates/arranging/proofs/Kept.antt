@@ -4,7 +4,6 @@ use mathlib.Core.Path.{◌≡◌, refl, sym, ap, subst, ◌∙◌}
 use mathlib.Core.List.{List, ◌++◌}
 use native.Mathlib.Omega.{arith}
 use native.Mathlib.Nat.{add-sub_cancel_left}
-use borrow.Rule.Slice.PartMut.{same_len_mid}
 use borrow.Author.Tests.{lt-ltb, le-ltb, ne_eqb}
 use lib.ListN.{length, get_or, take, drop, set, take-append-drop}
 use lib.Seq.{set-get_or, get_or-take, length-take-le}
@@ -23,10 +22,6 @@ use Rattle.arranging.specs.Steps.{TakesOn}
 
 pub put_same : (d : List ℕ) (a n : ℕ) → put d a n (part d a n) ≡ d
 put_same d a n = ap (λ (r : List ℕ). take a d ++ r) (take-append-drop n (drop a d)) ∙ take-append-drop a d
-
--- a table is as long once its part `a..a + n` is put back
-pub same_part : (a n : ℕ) (d p : List ℕ) → length p ≡ length (part d a (a + n - a)) → length (put d a (a + n - a) p) ≡ length d
-same_part a n d p e = same_len_mid a (a + n - a) d p e
 
 -- Stream j, as a call on its parts is lent it: the length of a part `a..a + n` is written `a + n - a`.
 abbrev pub lent_at : ℕ → States → ℕ → OrderingStream → State

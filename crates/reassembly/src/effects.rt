@@ -64,6 +64,7 @@ pub fn perform(
 }
 
 // The entry's number is put in where it is made, and taken out where the count is reached.
+#[tactic(auto, unfolding(crate::specs::Effects::num_after, crate::specs::Effects::slots_after))]
 fn number_in(
     plan: Plan,
     sequence_num: PacketNumber,
@@ -87,6 +88,7 @@ fn number_in(
 }
 
 // By itself, so that a fragment of a message that is known calls nothing.
+#[tactic(auto, unfolding(sequence_buffer::specs::Buffer::inserted))]
 fn make_entry(sequence_num: PacketNumber, slots: &mut [u32], number: PacketNumber) -> PacketNumber
     requires { (1 ≤ length slots.old) × (length slots.old ≤ 64) }
     ensures result_value { result.0 ≡ inserted_num sequence_num.0 slots.old number.0 }
@@ -122,6 +124,7 @@ fn remove_entry(whole: bool, slots: &mut [u32], number: PacketNumber)
 }
 
 // The entry at its slot.
+#[tactic(auto, unfolding(crate::specs::Effects::entry_after))]
 fn note(plan: Plan, entry: &mut [u64], at: usize, count: u8)
     requires { at < length entry.old }
     ensures { entry.new ≡ entry_after plan count at entry.old }
@@ -140,6 +143,7 @@ fn note(plan: Plan, entry: &mut [u64], at: usize, count: u8)
 }
 
 // The acknowledgment header that comes with fragment 0.
+#[tactic(auto, unfolding(crate::specs::Effects::header_after))]
 fn keep_header(plan: Plan, header: &mut [u64], at: usize, fragment: Fragment)
     requires { at < length header.old }
     ensures { header.new ≡ header_after plan fragment at header.old }
@@ -157,6 +161,7 @@ fn keep_header(plan: Plan, header: &mut [u64], at: usize, fragment: Fragment)
 }
 
 // The payload goes to its place in the room of its entry.
+#[tactic(auto, unfolding(crate::specs::Effects::bytes_after))]
 fn join(plan: Plan, bytes: &mut [u8], room: usize, payload: &[u8])
     requires { Joins room (length payload.now) (length bytes.old) plan }
     ensures { bytes.new ≡ bytes_after plan room payload.now bytes.old }
@@ -173,6 +178,7 @@ fn join(plan: Plan, bytes: &mut [u8], room: usize, payload: &[u8])
 }
 
 // A message that is whole goes to the output.
+#[tactic(auto, unfolding(crate::specs::Effects::output_after))]
 fn hand_out(plan: Plan, bytes: &[u8], room: usize, output: &mut [u8])
     requires { Hands room (length bytes.now) (length output.old) plan }
     ensures { output.new ≡ output_after plan room bytes.now output.old }
@@ -205,6 +211,7 @@ fn message_length(entry: Entry) -> usize
 }
 
 // What is answered. The header is fragment 0's, which was kept.
+#[tactic(auto, unfolding(crate::specs::Effects::answer_of))]
 fn tell(plan: Plan, header: &[u64], at: usize) -> Answer
     requires { at < length header.now }
     ensures { result ≡ answer_of plan at header.now }
@@ -216,6 +223,7 @@ fn tell(plan: Plan, header: &[u64], at: usize) -> Answer
     }
 }
 
+#[tactic(auto, unfolding(crate::specs::Effects::joined_answer))]
 fn tell_joined(entry: Entry, header: u64) -> Answer
     ensures { result ≡ joined_answer entry header }
 {
