@@ -1,6 +1,6 @@
 -- What each call leaves of streams that 13 does not refuse. Assumes nothing.
 use Prim.Native.Nat.{ℕ, ◌*◌, ◌≤◌, ◌<◌}
-use mathlib.Core.Path.{◌≡◌, refl, sym, ◌∙◌}
+use mathlib.Core.Path.{◌≡◌, refl, sym, ◌∙◌, subst}
 use mathlib.Core.List.{List}
 use mathlib.Core.Logic.{⊎_elim}
 use native.Mathlib.Omega.{arith}
@@ -124,4 +124,5 @@ module _ (f : ℕ) (s : States) (id : ℕ) (w : Whole f s) where
   after_send_lem h = rw (sym (sent_is h)) (stored_whole f s w id h (Sent f s w J h) (sent_fits f s w J h))
 
   pub send_others : (k : ℕ) → J < 4 → (k ≡ J → ⊥) → state_at f (after_send s id) k ≡ state_at f s k
-  send_others k h ne = rw (sym (sent_is h)) (stored_other f s w id h (Sent f s w J h) (sent_fits f s w J h) k ne)
+  send_others k h ne =
+      subst (λ (x : States). state_at f x k ≡ state_at f s k) (sent_is h) (stored_other f s w id h (Sent f s w J h) (sent_fits f s w J h) k ne)

@@ -8,7 +8,7 @@ use lib.Seq.{get_or-set_other}
 use Rattle.keys.specs.Keys.{twice}
 use Rattle.sequencing.specs.declared.SequencingStream.{SequencingStream}
 use Rattle.arranging_plan.specs.Ids.{place_of, sound_ids, no_ids}
-use Rattle.arranging_plan.specs.Ordered.{no_streams, stream_at, stored_at, sound_all}
+use Rattle.arranging_plan.specs.Ordered.{no_streams, sound_all}
 use Rattle.arranging.specs.Sequenced as sequenced
 use Rattle.arranging.specs.declared.sequenced.SequencingStreams.{SequencingStreams}
 use Rattle.arranging_laws.specs.Sound.{StaysSound}

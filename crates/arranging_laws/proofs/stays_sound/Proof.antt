@@ -1,9 +1,0 @@
-use Rattle.arranging_laws.proofs.Theorems.{stays_sound}
-use Rattle.arranging_laws.proofs.stays_sound.Statement.{statement}
-use Rattle.arranging_laws.proofs.stays_sound.Tie as tie
-
-returns : tie.Need-returns
-returns c = stays_sound
-
-pub stays-sound-spec : {M : Type 1} → statement M
-stays-sound-spec = tie.close (tie.spec returns)
