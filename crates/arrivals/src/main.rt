@@ -2,12 +2,15 @@
 // ordered stream does with it and which items go out. The items have no bytes: one that is taken has the index expected.
 #![tactic(auto)]
 
-use libc::{STDIN_FILENO, STDOUT_FILENO};
 use ordering::{OrderingStream, Taken};
 use serial::ItemId;
 use terms::Sizes;
 
 mod text;
+
+const STANDARD_INPUT: i32 = 0;
+
+const STANDARD_OUTPUT: i32 = 1;
 
 // The stream after some arrivals, and how much of the text is filled.
 #[derive(Clone, Copy)]
@@ -21,7 +24,7 @@ fn main() {
     let mut lengths = [0u16; 64];
     let mut bytes = [0u8; 64];
     let mut output = [0u8; 33];
-    io::write_all(STDOUT_FILENO, b"index answer out\n");
+    io::write_all(STANDARD_OUTPUT, b"index answer out\n");
     list_all(&mut index, &mut lengths, &mut bytes, &mut output);
 }
 
@@ -32,7 +35,7 @@ fn list_all(index: &mut [u32], lengths: &mut [u16], bytes: &mut [u8], output: &m
     let mut turns: u64 = u64::MAX;
     while turns > 0 {
         let mut input = io::buffer();
-        let n = io::read_full(STDIN_FILENO, &mut input);
+        let n = io::read_full(STANDARD_INPUT, &mut input);
         stream = list_some(stream, index, lengths, bytes, output, &input[..n]);
         if n < 4096 {
             return;

@@ -1,5 +1,5 @@
 // The listing's text, in a buffer that is filled from its start. What does not fit is left out; the program leaves room.
-use libc::STDOUT_FILENO;
+use crate::STANDARD_OUTPUT;
 use ordering::Arranged;
 
 // Writes the text out where more than so many bytes are filled, and answers how many are filled then.
@@ -8,7 +8,7 @@ pub fn written_out(text: &[u8], at: usize, most: usize) -> usize {
         return at;
     }
     if at <= text.len() {
-        io::write_all(STDOUT_FILENO, &text[..at]);
+        io::write_all(STANDARD_OUTPUT, &text[..at]);
     }
     0
 }

@@ -5,9 +5,11 @@ use crate::{answers, marks, script};
 use ends::{End, gate};
 use packet::{DeliveryGuarantee, OrderingGuarantee};
 use serial::PacketNumber;
+use std::io::Stdout;
 use terms::Sizes;
 
 pub fn send(
+    stdout: Stdout,
     sizes: Sizes,
     end: End,
     tables: Tables,
@@ -29,7 +31,7 @@ pub fn send(
     let ordering = ordering(step.kind);
     let room = step.room;
     let item = script::first(&room, step.count);
-    marks::mark(step.counts_call);
+    marks::mark(stdout, step.counts_call);
     let sent = link::send(
         sizes,
         end,
@@ -50,7 +52,7 @@ pub fn send(
         item,
         &mut output,
     );
-    marks::mark(step.counts_call);
+    marks::mark(stdout, step.counts_call);
     let end = sent.end;
     let answer = sent.answer;
     let count = answers::sent(answer);
@@ -73,6 +75,7 @@ fn ordering(kind: u8) -> OrderingGuarantee {
 }
 
 pub fn receive(
+    stdout: Stdout,
     sizes: Sizes,
     end: End,
     tables: Tables,
@@ -92,7 +95,7 @@ pub fn receive(
     let mut output = tables.output;
     let room = step.room;
     let datagram = script::first(&room, step.count);
-    marks::mark(step.counts_call);
+    marks::mark(stdout, step.counts_call);
     let heard = link::receive(
         sizes,
         end,
@@ -110,7 +113,7 @@ pub fn receive(
         datagram,
         &mut output,
     );
-    marks::mark(step.counts_call);
+    marks::mark(stdout, step.counts_call);
     let end = heard.end;
     let answer = heard.answer;
     let count = answers::received(answer);
@@ -131,6 +134,7 @@ pub fn receive(
 }
 
 pub fn take(
+    stdout: Stdout,
     sizes: Sizes,
     end: End,
     tables: Tables,
@@ -148,7 +152,7 @@ pub fn take(
     let mut index = tables.index;
     let mut lengths = tables.lengths;
     let mut output = tables.output;
-    marks::mark(step.counts_call);
+    marks::mark(stdout, step.counts_call);
     let took = link::take(
         sizes,
         end,
@@ -166,7 +170,7 @@ pub fn take(
         0,
         &mut output,
     );
-    marks::mark(step.counts_call);
+    marks::mark(stdout, step.counts_call);
     let end = took.end;
     let answer = took.answer;
     let count = answers::taken(answer);
@@ -184,6 +188,7 @@ pub fn take(
 // The check of the state by itself, and a further fragment: both change nothing but the output, and what is lent is lent
 // once. Where the check alone is asked for, the step names a fragment that there is not.
 pub fn look(
+    stdout: Stdout,
     sizes: Sizes,
     end: End,
     tables: Tables,
@@ -209,14 +214,14 @@ pub fn look(
     let header: &[u64] = &header;
     let index: &[u32] = &index;
     let lengths: &[u16] = &lengths;
-    marks::mark(step.counts_check);
+    marks::mark(stdout, step.counts_check);
     let gate = gate::check(
         sizes, end, received, number, records, payloads, slots, entry, header, joined, index,
         lengths, held, &output,
     );
-    marks::mark(step.counts_check);
+    marks::mark(stdout, step.counts_check);
     let packet = PacketNumber(step.packet);
-    marks::mark(step.counts_call);
+    marks::mark(stdout, step.counts_call);
     let further = link::fragment(
         sizes,
         end,
@@ -235,7 +240,7 @@ pub fn look(
         step.part,
         &mut output,
     );
-    marks::mark(step.counts_call);
+    marks::mark(stdout, step.counts_call);
     let count = answers::looked(gate, further);
     let mut after = tables;
     after.output = output;

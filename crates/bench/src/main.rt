@@ -13,11 +13,11 @@ mod work;
 use digest::Digest;
 
 // What is lent has room for N x F to 32,768, as N 256 with F 128 or N 32 with F 1,024.
-fn main() {
+fn main(rt: HostRuntime) {
     let mut payloads = payloads();
     let mut joined = joined();
     let mut held = held();
-    tell(work::work(&mut payloads, &mut joined, &mut held));
+    tell(work::work(rt.stdout(), &mut payloads, &mut joined, &mut held));
 }
 
 // An array is made in a function of its own: where it is lent the check then knows its length alone.

@@ -1,6 +1,9 @@
 // What bench/run counts lies between two marks: writes of no bytes, which its plugin of the emulator sees.
-pub fn mark(on: bool) {
+use std::io::{Stdout, Write};
+
+pub fn mark(stdout: Stdout, on: bool) {
     if on {
-        libc::write(1, b"");
+        let mut stdout = stdout;
+        let _ = stdout.write(b"");
     }
 }

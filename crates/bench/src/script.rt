@@ -2,6 +2,7 @@
 // how many steps there are. A step is its kind and what of it is counted (1 byte each), a packet and which of its fragments, and how
 // many bytes follow: an item to send, or a datagram that comes.
 use crate::marks;
+use std::io::Stdout;
 use terms::Sizes;
 
 pub const SEND: u8 = 0;
@@ -55,15 +56,15 @@ pub fn begin() -> Start {
     }
 }
 
-pub fn next() -> Step {
+pub fn next(stdout: Stdout) -> Step {
     let mut head = [0u8; 8];
     io::read_full(0, &mut head);
     let mut room = [0u8; 16401];
     let count = two_bytes(head[6], head[7]) as usize;
     read(&mut room, count);
     let counted = head[1];
-    marks::mark(counted == THE_MARKS);
-    marks::mark(counted == THE_MARKS);
+    marks::mark(stdout, counted == THE_MARKS);
+    marks::mark(stdout, counted == THE_MARKS);
     Step {
         kind: head[0],
         counts_call: counted == THE_CALL,
