@@ -1,5 +1,4 @@
 -- A shut gate leaves everything (`drop_shut`); behind an open one the first N numbers are a table as `drop_one` requires it.
-use borrow.Author.Rules.{rules}
 use mathlib.Core.Path.{◌≡◌, sym, ap, ◌∙◌}
 use Rattle.terms.specs.declared.Gate.TheVariants.{Open, Shut}
 use Rattle.ends.specs.State.{State, lending}
@@ -16,21 +15,22 @@ abbrev whole : Start → State
 whole c = lending c.args.end c.args.received.now c.args.number.now c.args.records.now c.args.payloads.now c.args.slots.now c.args.entry.now c.args.header.now c.args.joined.now c.args.index.now c.args.lengths.now c.args.held.now
 
 is_open : (c : In_default) → gate_of c.args.sizes ((lending c.args.end c.args.received.now c.args.number.now c.args.records.now c.args.payloads.now c.args.slots.now c.args.entry.now c.args.header.now c.args.joined.now c.args.index.now c.args.lengths.now c.args.held.now)) c.args.output.now ≡ Open
-is_open c = sym c.check-gate.ensures ∙ c.enum_told-1.given.1
+is_open c = sym c.check-gate.ensures ∙ c.in_default.is
 
 opens : (c : In_default) → Opened c.args.sizes ((lending c.args.end c.args.received.now c.args.number.now c.args.records.now c.args.payloads.now c.args.slots.now c.args.entry.now c.args.header.now c.args.joined.now c.args.index.now c.args.lengths.now c.args.held.now)) c.args.output.now
-opens c = opened c.args.sizes ((lending c.args.end c.args.received.now c.args.number.now c.args.records.now c.args.payloads.now c.args.slots.now c.args.entry.now c.args.header.now c.args.joined.now c.args.index.now c.args.lengths.now c.args.held.now)) c.args.output.now ((sym c.check-gate.ensures ∙ c.enum_told-1.given.1))
+opens c = opened c.args.sizes ((lending c.args.end c.args.received.now c.args.number.now c.args.records.now c.args.payloads.now c.args.slots.now c.args.entry.now c.args.header.now c.args.joined.now c.args.index.now c.args.lengths.now c.args.held.now)) c.args.output.now ((sym c.check-gate.ensures ∙ c.in_default.is))
 
 pub returns-in-Shut : goal.returns-in-Shut
 returns-in-Shut c =
     let s = (goal.at.returns-in-Shut c).Start in
-    let why = c.gate-1.given.0.0 in
-    let e : c.check-gate.result ≡ Shut why = c.gate-1.given.1 in
+    let why = c.in-Shut.why in
+    let e : c.check-gate.result ≡ Shut why = c.in-Shut.is in
     let g = sym c.check-gate.ensures ∙ e in
-    drop_shut s.args.sizes (whole s) s.args.output.now why g
+    let both = drop_shut s.args.sizes (whole s) s.args.output.now why g in
+    record { value = both.0; number_after = both.1.0; output_after = both.1.1 }
 
 pub overflow_mul-room : goal.overflow_mul-room
-overflow_mul-room c = omega (arith, (opens (goal.at.overflow_mul-room c).In_default).in_range.f)
+overflow_mul-room c = omega (arith, (opens (goal.at.overflow_mul-room c).In_default).within_range.f)
 
 pub slice_bounds-drop_one-end : goal.slice_bounds-drop_one-end
 slice_bounds-drop_one-end c = (opens (goal.at.slice_bounds-drop_one-end c).In_default).number_room
@@ -47,4 +47,5 @@ pub returns : goal.returns
 returns c =
     let s = (goal.at.returns c).Start in
     let t = c.drop_one.ensures in
-    drop_open s.args.sizes (whole s) s.args.output.now _ _ _ (is_open (goal.at.returns c).In_default) (c.answered.ensures ∙ ap answered_by t.0) t.1.0 t.1.1
+    let all = drop_open s.args.sizes (whole s) s.args.output.now _ _ _ (is_open (goal.at.returns c).In_default) (c.answered.ensures ∙ ap answered_by t.value) t.number_after t.output_after in
+    record { value = all.0; number_after = all.1.0; output_after = all.1.1 }

@@ -1,8 +1,6 @@
 -- 1 and 2 rung by rung; then each table is fresh by the crate that makes an end.
-use borrow.Author.Rules.{rules}
 use mathlib.Core.Path.{◌≡◌, refl, sym, ◌∙◌}
 use mathlib.Core.Bool.{true}
-use Rattle.laws.proofs.Cases.{on, off}
 use Rattle.terms.specs.Sizes.{in_range}
 use Rattle.link.proofs.Ways.{new_sizes, new_storage, new_ready}
 use Rattle.link.proofs.fresh.new.Goals as goal
@@ -31,4 +29,4 @@ returns c =
     let s = c in
     let w = new_ready s.args.sizes s.args.received.now s.args.number.now s.args.records.now s.args.payloads.now s.args.slots.now s.args.entry.now s.args.header.now s.args.joined.now s.args.index.now s.args.lengths.now s.args.held.now s.args.output.now (ranged (goal.at.returns c).Else-not-in_range) (sym c.is_lent.ensures ∙ c.if-not-is_lent.false) in
     let t = c.new.ensures in
-    record { end_value = t.value; answer_value = sym w; received_after = rw w t.received_after.0; number_after = rw w t.received_after.1.0; slots_after = rw w t.received_after.1.1 }
+    record { end_value = t.value; answer_value = sym w; received_after = rw w t.received_after; number_after = rw w t.number_after; slots_after = rw w t.slots_after }

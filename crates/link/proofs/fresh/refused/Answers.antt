@@ -1,5 +1,4 @@
 -- The counters are fresh all the same.
-use borrow.Author.Rules.{rules}
 use Rattle.link.proofs.fresh.refused.Goals as goal
 
 pub returns : goal.returns
