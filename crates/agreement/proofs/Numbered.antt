@@ -38,9 +38,9 @@ module _ (f : ℕ) (s : States) (k : KeptOrdered f s) (stream : ℕ) (free : pla
   -- another
   pub others_seen : (t : Identifier) (id : ℕ) → (id ≡ stream → ⊥) → Equal f (seen f s id) (seen f (After t) id)
   others_seen Next id ne =
-      rw (sym (sent_is f s stream k.whole free)) (other_seen f s k.whole stream free (Sent f s k.whole J free) (sent_fits f s k.whole J free) id ne)
+      subst (λ (x : States). Equal f (seen f s id) (seen f x id)) (sent_is f s stream k.whole free) (other_seen f s k.whole stream free (Sent f s k.whole J free) (sent_fits f s k.whole J free) id ne)
   others_seen (Again item) id ne =
-      rw (sym (again-is f s k stream free item)) (other_seen f s k.whole stream free (state_at f s J) (fitting f s k.whole J free) id ne)
+      subst (λ (x : States). Equal f (seen f s id) (seen f x id)) (again-is f s k stream free item) (other_seen f s k.whole stream free (state_at f s J) (fitting f s k.whole J free) id ne)
 
   -- of either what is expected and what is held stays
   pub record Receives (a b : Stream) : Type 0 where
