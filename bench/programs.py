@@ -13,6 +13,7 @@ from pathlib import Path
 ROOT = Path(__file__).resolve().parent.parent
 MACHINE = platform.machine()
 NAME = "bench"
+PORT = ROOT / "crates" / NAME / "out" / NAME
 PLUGIN = ROOT / "target/libcount.so"
 TARGET = "x86_64-unknown-linux-gnu"
 RUSTC = "/usr/bin/rustc"
@@ -78,12 +79,12 @@ class Programs:
     def __init__(self):
         install(["qemu-user", "gcc", "libc6-dev"])
         self.rust = build_rust()
-        run("rt", "check", NAME, cwd=ROOT, stdout=subprocess.DEVNULL)
+        run(ROOT / "tools/build-program", NAME)
         run("gcc", "-shared", "-fPIC", "-O2", "-o", PLUGIN, ROOT / "bench/count.c")
         kit = Path(os.environ.get("RATTLE_HOME") or Path(shutil.which("rt")).resolve().parent.parent)
-        tools = kit / "on" / MACHINE / "toolchain/lib"
+        tools = kit / "toolchain/lib"
         loader = ["qemu-x86_64", tools / "ld-linux-x86-64.so.2", "--library-path", tools]
-        self.port = [*loader, ROOT / "target/bin" / NAME]
+        self.port = [*loader, PORT]
         self.compiler = run(RUSTC, "--version", capture_output=True, text=True).stdout.strip()
 
 
