@@ -193,7 +193,7 @@ inverse = record {
   read_back = λ v h p o end fits e.
       let means = told h p o end e in
       rw (sent_is v h p o end e means.2) (layout_reads v h p fits means.0);
-  built-again = λ v d h at o all e room.
+  built_again = λ v d h at o all e room.
       let l = only v d h at all e in
       let inside : at ≤ length d = within v d h at e in
       let long : start h + length (drop at d) ≡ length d = rw (← l.starts, length-drop) (omega arith) in

@@ -47,7 +47,7 @@ pub record Inverse : Type 0 where
       (v : ℕ) (h : Headers) (payload output : List ℕ) (end : ℕ) → Fits v h → build_of h payload output ≡ Datagram end
       → (read_of v (sent v h payload output end) ≡ Found (carried h) (start h)) × (drop (start h) (sent v h payload output end) ≡ payload)
   -- what reads as these headers, built again with its payload, is the same datagram
-  pub built-again :
+  pub built_again :
       (v : ℕ) (d : List ℕ) (h : Headers) (at : ℕ) (output : List ℕ) → Bytes d → read_of v d ≡ Found h at → length d ≤ length output
       → (build_of h (drop at d) output ≡ Datagram (length d)) × (sent v h (drop at d) output (length d) ≡ d)
 
