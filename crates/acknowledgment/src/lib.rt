@@ -5,29 +5,19 @@
 // packet is sent again: that is the link.
 #![tactic(auto)]
 
-ghost use Rattle.std.specs.Prelude.{◌≡◌};
+ghost use Rattle.std.specs.Prelude.{◌≡◌, true, ◌≤◌, length};
+ghost use Rattle.terms.specs.Sizes.{in_range};
+ghost use Rattle.received.specs.Record.{slot_count};
 ghost use Rattle.acks.specs.State.{lending};
-ghost use Rattle.acknowledgment.specs.Calls.{Incoming, Outgoing, answered_by, Dropping};
+ghost use Rattle.acks.specs.Gate.{lent};
+ghost use Rattle.acknowledgment.specs.Gate.{opened, Judged};
+ghost use Rattle.acknowledgment.specs.Calls.{Incoming, Outgoing, Dropping};
 
-pub use acks::{AckBitfield, Acknowledgment, InFlight, ack_bitfield, new, packets_in_flight};
+pub use acks::{Acknowledgment, ack_bitfield, new, packets_in_flight};
 use flight::SentPacket;
-use flight::lost::{Drop, Dropped};
+use flight::lost::Dropped;
 use serial::PacketNumber;
 use terms::{Refusal, Sizes};
-
-#[derive(Clone, Copy)]
-pub enum Processed {
-    Done(Acknowledgment),
-    Refused(Refusal),
-}
-
-// What was given up.
-#[derive(Clone, Copy)]
-pub enum DroppedPackets {
-    Nothing,
-    Packet(Dropped),
-    Refused(Refusal),
-}
 
 // A packet has come: its number, the number that it acknowledges, and the field of those before that.
 pub fn process_incoming(
@@ -40,22 +30,13 @@ pub fn process_incoming(
     packet: PacketNumber,
     acked: PacketNumber,
     field: u32,
-) -> Processed
+) -> Result<Acknowledgment, Refusal>
     ensures { Incoming sizes (lending state received.old number.old records.now bytes.now) packet.0 acked.0 field result received.new number.new }
 {
-    if !sizes.in_range() {
-        return Processed::Refused(Refusal::BadSizes);
-    }
-    if !acks::gate::is_lent(sizes, received, number, records, bytes) {
-        return Processed::Refused(Refusal::BadStorage);
-    }
-    let next = state.sequence_number;
-    let at_home = acks::home::is_home(sizes, next, number);
-    if !acks::home::is_sound(sizes, received, number, at_home) {
-        return Processed::Refused(Refusal::BadState);
-    }
+    lent(sizes, received, number, records, bytes)?;
+    let at_home = sound(sizes, state.sequence_number, received, number)?;
     let n = sizes.packets_in_flight;
-    Processed::Done(acks::steps::incoming(
+    Ok(acks::steps::incoming(
         state,
         received,
         &mut number[..n],
@@ -76,35 +57,25 @@ pub fn process_outgoing(
     bytes: &mut [u8],
     sent: SentPacket,
     payload: &[u8],
-) -> Processed
+) -> Result<Acknowledgment, Refusal>
     ensures { Outgoing sizes (lending state received.now number.old records.old bytes.old) sent payload.now result number.new records.new bytes.new }
 {
-    if !sizes.in_range() {
-        return Processed::Refused(Refusal::BadSizes);
-    }
-    if !acks::gate::is_lent(sizes, received, number, records, bytes) {
-        return Processed::Refused(Refusal::BadStorage);
-    }
-    let next = state.sequence_number;
-    let at_home = acks::home::is_home(sizes, next, number);
-    if !acks::home::is_sound(sizes, received, number, at_home) {
-        return Processed::Refused(Refusal::BadState);
-    }
+    lent(sizes, received, number, records, bytes)?;
+    let at_home = sound(sizes, state.sequence_number, received, number)?;
     if acks::gate::is_too_long(sizes, sent, payload.len()) {
-        return Processed::Refused(Refusal::TooLong);
+        return Err(Refusal::TooLong);
     }
     if sizes.max_fragments * sizes.fragment_size < payload.len() {
-        return Processed::Refused(Refusal::ExceededMaxFragments);
+        return Err(Refusal::ExceededMaxFragments);
     }
     let n = sizes.packets_in_flight;
     let packet = state.sequence_number;
-    let at = flight_home::direct::place(&number[..n], packet, at_home);
-    if at == n {
-        return Processed::Refused(Refusal::Full);
-    }
+    let Some(at) = flight_home::direct::place(&number[..n], packet, at_home) else {
+        return Err(Refusal::Full);
+    };
     let room = 16 * sizes.fragment_size;
     flight::store(number, records, bytes, room, at, packet, sent, payload);
-    Processed::Done(acks::steps::sent(state))
+    Ok(acks::steps::sent(state))
 }
 
 // Gives up one packet: its payload is written at the output's start.
@@ -116,35 +87,53 @@ pub fn dropped_packets(
     records: &[u32],
     bytes: &[u8],
     output: &mut [u8],
-) -> DroppedPackets
+) -> Result<Option<Dropped>, Refusal>
     ensures { Dropping sizes (lending state received.now number.old records.now bytes.now) output.old result number.new output.new }
 {
-    if !sizes.in_range() {
-        return DroppedPackets::Refused(Refusal::BadSizes);
-    }
-    if !acks::gate::is_lent(sizes, received, number, records, bytes) {
-        return DroppedPackets::Refused(Refusal::BadStorage);
-    }
+    lent(sizes, received, number, records, bytes)?;
     let room = 16 * sizes.fragment_size;
     if output.len() < room + 17 {
-        return DroppedPackets::Refused(Refusal::BadStorage);
+        return Err(Refusal::BadStorage);
     }
-    let next = state.sequence_number;
-    let at_home = acks::home::is_home(sizes, next, number);
-    if !acks::home::is_sound(sizes, received, number, at_home) {
-        return DroppedPackets::Refused(Refusal::BadState);
-    }
+    sound(sizes, state.sequence_number, received, number)?;
     let n = sizes.packets_in_flight;
     let remote = state.remote_ack_sequence_num;
-    answered(flight::lost::drop_one(&mut number[..n], records, bytes, room, remote, output))
+    Ok(flight::lost::drop_one(&mut number[..n], records, bytes, room, remote, output))
 }
 
-// For the crates above, beside `flight::lost::drop_one`.
-pub fn answered(drop: Drop) -> DroppedPackets
-    ensures { result ≡ answered_by drop }
+// 1 and 2 of what every call is lent.
+fn lent(
+    sizes: Sizes,
+    received: &[u32],
+    number: &[u32],
+    records: &[u32],
+    bytes: &[u8],
+) -> Result<(), Refusal>
+    ensures { result ≡ opened sizes (lent sizes received.now number.now records.now bytes.now) }
 {
-    match drop {
-        Drop::Nothing => DroppedPackets::Nothing,
-        Drop::Packet(dropped) => DroppedPackets::Packet(dropped),
+    if !sizes.in_range() {
+        return Err(Refusal::BadSizes);
     }
+    if !acks::gate::is_lent(sizes, received, number, records, bytes) {
+        return Err(Refusal::BadStorage);
+    }
+    Ok(())
+}
+
+// 13, and then whether the packets in flight are seen to be at home. Requires sizes in range, and what is lent to be as long
+// as stated.
+fn sound(
+    sizes: Sizes,
+    next: PacketNumber,
+    received: &[u32],
+    number: &[u32],
+) -> Result<bool, Refusal>
+    requires { (in_range sizes ≡ true) × (slot_count ≤ length received.now) × (sizes.packets_in_flight ≤ length number.now) }
+    ensures { Judged sizes received.now number.now result }
+{
+    let at_home = acks::home::is_home(sizes, next, number);
+    if !acks::home::is_sound(sizes, received, number, at_home) {
+        return Err(Refusal::BadState);
+    }
+    Ok(at_home)
 }

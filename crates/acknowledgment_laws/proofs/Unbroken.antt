@@ -10,6 +10,7 @@ use lib.ListN.{length, get_or, set, take, drop, length-append, length-map, lengt
 use lib.Seq.{length-take-le, take_at, take-set-lt, get_or-take, length-paste, paste}
 use lib.Dec.{ltb}
 use borrow.Author.Tests.{le-leb, ltb-false}
+use Rattle.std.specs.Prelude.{Result, Ok, Err, Option, Some, None}
 use Rattle.laws.proofs.Cases.{case}
 use Rattle.keys.specs.Keys.{first_place}
 use Rattle.keys.proofs.Twice.{all_apart}
@@ -27,16 +28,14 @@ use Rattle.flight.specs.Lost.{number_left}
 use Rattle.flight.specs.View.{Flight, Sound, Fits}
 use Rattle.flight.specs.declared.SentPacket.{SentPacket}
 use Rattle.flight.specs.declared.lost.Dropped.{Dropped}
-use Rattle.flight.specs.declared.lost.Drop.TheVariants.{Packet as OneDrop}
 use Rattle.flight.proofs.Words.{numbers_length, none_here}
 use Rattle.flight.proofs.Stays.{sound_of, fits_all, stays_acked, stays_dropped, stays-stored, place-within, slot-within}
 use Rattle.acks.specs.State.{State, lending, table_of, slot_of, heard, unacked, sent_one}
 use Rattle.acks.specs.Gate.{lent, flight_lent, sound, too_long}
 use Rattle.acknowledgment.specs.Calls.{is_lent, is_sound, incoming_of, outgoing_of, at, dropped_of}
 use Rattle.acknowledgment_laws.specs.Runs.{Call, comes, goes, drops, called, after, Typed, AllTyped, with_comes, with_goes, with_drops, fresh_end, NeverBroken}
-use Rattle.acknowledgment.specs.declared.DroppedPackets.{DroppedPackets}
-use Rattle.acknowledgment.specs.declared.DroppedPackets.TheVariants.{Nothing, Packet, Refused as NotDropped}
 use Rattle.acks.proofs.Gates.{Lent, lent_means}
+use Rattle.terms.specs.declared.Refusal.{Refusal}
 
 abbrev pub flight_of : Sizes → State → Flight
 flight_of z s = record { number = table_of z s.number; records = s.records; bytes = s.bytes }
@@ -137,10 +136,10 @@ module _ (z : Sizes) (s : State) (r : in_range z ≡ true) (g : Good z s) where
         (λ f. rw (r, good_lent z s g, good_sound z s g, e, q, f) g)
         (λ f. rw (r, good_lent z s g, good_sound z s g, e, q, f) (good-go f (ltb-false (z.max_fragments * z.fragment_size) (length payload) q)))))
 
-  pub good_drop : (d : Dropped) → Good z (lending s.counters s.received (number_left (OneDrop d) (table_of z s.number) ++ drop n s.number) s.records s.bytes)
+  pub good_drop : (d : Dropped) → Good z (lending s.counters s.received (number_left (Some d) (table_of z s.number) ++ drop n s.number) s.records s.bytes)
   good_drop d =
       let l = g.lengths in
-      let q = fronted n (number_left (OneDrop d) (table_of z s.number)) (drop n s.number) (length-set (table_of z s.number) (first_place d.number.0 (numbers_in (table_of z s.number))) no_number ∙ whole z s g) in
+      let q = fronted n (number_left (Some d) (table_of z s.number)) (drop n s.number) (length-set (table_of z s.number) (first_place d.number.0 (numbers_in (table_of z s.number))) no_number ∙ whole z s g) in
       record {
         lengths = record { slots = l.slots; numbers = q.1; recorded = l.recorded; room = l.room };
         home = g.home;
@@ -152,10 +151,10 @@ module _ (z : Sizes) (s : State) (r : in_range z ≡ true) (g : Good z s) where
   unfolding called
   good_drops output = by_answer (dropped_of z s output) refl
     where
-      by_answer : (a : DroppedPackets) → dropped_of z s output ≡ a → Good z (called z s (drops output))
-      by_answer Nothing e = rw e g
-      by_answer (Packet d) e = rw e (good_drop d)
-      by_answer (NotDropped why) e = rw e g
+      by_answer : (a : Result (Option Dropped) Refusal) → dropped_of z s output ≡ a → Good z (called z s (drops output))
+      by_answer (Ok None) e = rw e g
+      by_answer (Ok (Some d)) e = rw e (good_drop d)
+      by_answer (Err why) e = rw e g
 
 good_after : (z : Sizes) (s : State) (calls : List Call) → in_range z ≡ true → AllTyped calls → Good z s → Good z (after z s calls)
 unfolding after

@@ -1,6 +1,6 @@
 -- Rows of calls from a fresh end. Document 01: "From a fresh end whose sizes, state and storage go from call to call
 -- unaltered, 13 never arises."
-use Rattle.std.specs.Prelude.{◌≡◌, true, List, [], ◌∷◌, ℕ, ◌*◌, ◌<◌, length, set}
+use Rattle.std.specs.Prelude.{◌≡◌, true, List, [], ◌∷◌, ℕ, ◌*◌, ◌<◌, length, set, Result, Ok, Err}
 use Rattle.std.proofs.Math.Seq.{paste}
 use Rattle.terms.specs.Sizes.{in_range}
 use Rattle.terms.specs.declared.Sizes.{Sizes}
@@ -11,8 +11,7 @@ use Rattle.flight.specs.declared.SentPacket.{SentPacket}
 use Rattle.acks.specs.State.{State, lending, slot_of, fresh_counters, unacked}
 use Rattle.acknowledgment.specs.Calls.{is_lent, is_sound, kept, incoming_of, outgoing_of, at, dropped_of, number_kept}
 use Rattle.acks.specs.declared.Acknowledgment.{Acknowledgment}
-use Rattle.acknowledgment.specs.declared.Processed.{Processed}
-use Rattle.acknowledgment.specs.declared.Processed.TheVariants.{Done, Refused}
+use Rattle.terms.specs.declared.Refusal.{Refusal}
 
 pub data Call : Type 0 where
   -- a packet with this number comes, and acknowledges this number and this field
@@ -22,9 +21,9 @@ pub data Call : Type 0 where
   -- one is given up, to an output of these bytes
   drops : List ℕ → Call
 
-abbrev pub counters_after : Processed → Acknowledgment → Acknowledgment
-counters_after (Done c) before = c
-counters_after (Refused why) before = before
+abbrev pub counters_after : Result Acknowledgment Refusal → Acknowledgment → Acknowledgment
+counters_after (Ok c) before = c
+counters_after (Err why) before = before
 
 -- what a call leaves, as its contract says
 unfoldable pub called : Sizes → State → Call → State

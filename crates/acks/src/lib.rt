@@ -28,18 +28,6 @@ pub struct Acknowledgment {
     pub received: PacketNumber,
 }
 
-#[derive(Clone, Copy)]
-pub enum InFlight {
-    Packets(usize),
-    Refused(Refusal),
-}
-
-#[derive(Clone, Copy)]
-pub enum AckBitfield {
-    Field(u32),
-    Refused(Refusal),
-}
-
 // A fresh end: nothing received, nothing in flight.
 pub fn new(received: &mut [u32], number: &mut [u32]) -> Acknowledgment
     ensures value { result ≡ fresh_counters }
@@ -71,35 +59,35 @@ impl Acknowledgment {
 }
 
 // How many packets are in flight.
-pub fn packets_in_flight(sizes: Sizes, number: &[u32], records: &[u32]) -> InFlight
+pub fn packets_in_flight(sizes: Sizes, number: &[u32], records: &[u32]) -> Result<usize, Refusal>
     ensures { result ≡ counted_of sizes number.now records.now }
 {
     if !sizes.in_range() {
-        return InFlight::Refused(Refusal::BadSizes);
+        return Err(Refusal::BadSizes);
     }
     if !gate::is_flight_lent(sizes, number, records) {
-        return InFlight::Refused(Refusal::BadStorage);
+        return Err(Refusal::BadStorage);
     }
     let table = &number[..sizes.packets_in_flight];
     if !flight_home::home::is_sound(table, 16 * sizes.fragment_size) {
-        return InFlight::Refused(Refusal::BadState);
+        return Err(Refusal::BadState);
     }
-    InFlight::Packets(flight::places::count(table))
+    Ok(flight::places::count(table))
 }
 
 // Which of the 32 numbers before `remote_sequence_num` have come.
-pub fn ack_bitfield(sizes: Sizes, state: Acknowledgment, received: &[u32]) -> AckBitfield
+pub fn ack_bitfield(sizes: Sizes, state: Acknowledgment, received: &[u32]) -> Result<u32, Refusal>
     ensures { result ≡ told_of sizes state received.now }
 {
     if !sizes.in_range() {
-        return AckBitfield::Refused(Refusal::BadSizes);
+        return Err(Refusal::BadSizes);
     }
     if received.len() < received::SLOTS {
-        return AckBitfield::Refused(Refusal::BadStorage);
+        return Err(Refusal::BadStorage);
     }
     let lapped = home::is_lapped(received);
     if !home::is_record_sound(received, lapped) {
-        return AckBitfield::Refused(Refusal::BadState);
+        return Err(Refusal::BadState);
     }
-    AckBitfield::Field(received::ack_bitfield(state.received, received, lapped))
+    Ok(received::ack_bitfield(state.received, received, lapped))
 }

@@ -3,7 +3,6 @@ use Prim.Native.Nat.{ℕ, zero, suc, ◌+◌, ◌-◌, ◌≤◌, ◌<◌, ◌%�
 use mathlib.Core.Path.{◌≡◌, refl, sym, ap, ◌∙◌, subst}
 use mathlib.Core.Logic.{◌⊎◌, inl, inr, ⊎_elim}
 use mathlib.Core.Bool.{Bool, true, false, cond}
-use mathlib.Core.Option.{Option, none, some}
 use mathlib.Core.List.{List, [], ◌∷◌, ◌++◌}
 use native.Mathlib.Omega.{arith}
 use native.Mathlib.Decide.{ℕ_discrete}
@@ -11,11 +10,10 @@ use borrow.Author.Tests.{eqb-true, eqb-false, eq-eqb, ne_eqb}
 use lib.Dec.{T, eqb}
 use lib.ListN.{length, get_or, take, replicate, get_or-append}
 use lib.Seq.{get_or-append_seam}
+use Rattle.std.specs.Prelude.{Result, Ok, Err, Option, Some, None}
 use Rattle.laws.proofs.Cases.{case, lt_or_le}
 use Rattle.serial.specs.Order.{back, next}
 use Rattle.flight.specs.View.{Sent as Entry}
-use Rattle.acknowledgment.specs.declared.DroppedPackets.{DroppedPackets}
-use Rattle.acknowledgment.specs.declared.DroppedPackets.TheVariants.{Nothing as NoDrop, Packet as OneDrop, Refused as NotDropped}
 use Rattle.acknowledgment_laws.specs.Runs.{Typed}
 use Rattle.packet_table.specs.Numbers.{Bytes}
 use Rattle.packet_table.specs.declared.DeliveryGuarantee.{DeliveryGuarantee}
@@ -25,10 +23,6 @@ use Rattle.ends.specs.State.{State}
 use Rattle.receiving_plan.specs.Plan.{number_of_answer}
 use Rattle.receiving.specs.Receive.{Step as Received}
 use Rattle.sending.specs.Send.{Step as Sent}
-use Rattle.sending.specs.declared.Answer.{Answer as Going}
-use Rattle.sending.specs.declared.Answer.TheVariants.{Datagram, Refused as NotSent}
-use Rattle.datagrams.specs.declared.further.Further.{Further}
-use Rattle.datagrams.specs.declared.further.Further.TheVariants.{Datagram as Fragment, Nothing as NoFragment, Refused as NotWritten}
 use Rattle.link_incoming.specs.Calls.{receive_of, take_of}
 use Rattle.link_outgoing.specs.Calls.{send_of, resend_of, fragment_of, fragment_output}
 use Rattle.link.specs.Calls.{drop_of, drop_output}
@@ -39,6 +33,9 @@ use Rattle.agreement.specs.Events.{Event, sends, resends, drops, writes, hears, 
 use Rattle.agreement.specs.Agreement.{Lent, Window, Waited, May, Mays, Has, Least, Refusals, Agreed}
 use Rattle.agreement.proofs.Core.{Where, Inv, length_snoc, inv_start, inv_send, inv_same, inv_none, inv_item, inv_out, inv-held, inv-old, some_none}
 use Rattle.agreement.proofs.Promises.{Views, Mine, Other, Stored, Went, Passed, Loose, Quiet, Same, Landed, goes-out, is_held, is-old, is-refused, Took, took-item, took-none, Promises}
+use Rattle.terms.specs.declared.Refusal.{Refusal}
+use Rattle.flight.specs.declared.lost.Dropped.{Dropped}
+use Rattle.sending.specs.declared.Written.{Written}
 
 -- ---- lists
 
@@ -115,18 +112,18 @@ module _ (l : Pair) (v : Views) (q : Promises l v) where
 
   -- a packet in flight or given back is of the item at a position, or of nothing on the stream
   abbrev Owned : List (List ℕ) → Option ℕ → Entry → Type 0
-  Owned sent (some p) e = (Typed e.packet × Bytes e.payload) × ((i : ℕ) × (Mine l.stream i e.packet × Of F sent p i e.payload))
-  Owned sent none e = (Typed e.packet × Bytes e.payload) × Other l.stream e.packet
+  Owned sent (Some p) e = (Typed e.packet × Bytes e.payload) × ((i : ℕ) × (Mine l.stream i e.packet × Of F sent p i e.payload))
+  Owned sent None e = (Typed e.packet × Bytes e.payload) × Other l.stream e.packet
 
   abbrev Carries : List (List ℕ) → Option ℕ → List ℕ → Type 0
-  Carries sent (some p) d = Bytes d × ((i : ℕ) × ((b : List ℕ) × (v.Says d i b × Of F sent p i b)))
-  Carries sent none d = Bytes d × v.Aside d
+  Carries sent (Some p) d = Bytes d × ((i : ℕ) × ((b : List ℕ) × (v.Says d i b × Of F sent p i b)))
+  Carries sent None d = Bytes d × v.Aside d
 
   record Good (w : World) : Type 0 where
     ok_sender : v.ok_sender w.sender
     ok_receiver : v.ok_receiver w.receiver
     counts : v.upcoming w.sender ≡ length w.sent % 65536
-    flying : (m : ℕ) (e : Entry) → m < 65536 → v.flight w.sender m ≡ some e → Owned w.sent (latest m w.marks) e
+    flying : (m : ℕ) (e : Entry) → m < 65536 → v.flight w.sender m ≡ Some e → Owned w.sent (latest m w.marks) e
     came : Every (λ (r : Back). Owned w.sent r.item (record { packet = r.sent; payload = r.payload })) w.back
     carried : Every (λ (c : Copy). Carries w.sent c.item c.datagram) w.line
     inv : Inv w.sent w.handed w.accepted w.quiet (v.expected w.receiver) (v.holds w.receiver)
@@ -145,30 +142,30 @@ module _ (l : Pair) (v : Views) (q : Promises l v) where
         inv = rw fr.1 (inv_start (v.holds r) fr.2);
       }
     where
-      no-entry : {e : Entry} → some e ≡ none → ⊥
+      no-entry : {e : Entry} → Some e ≡ None → ⊥
       no-entry e = let z : ◌≡◌ {A = ℕ} 0 1 = cc in omega arith
 
   -- one more item is sent: what belongs to an item still does
   owned_more : (sent : List (List ℕ)) (c : List ℕ) (o : Option ℕ) (e : Entry) → Owned sent o e → Owned (sent ++ (c ∷ [])) o e
-  owned_more sent c none e h = h
-  owned_more sent c (some p) e h = (h.0, (h.1.0, (h.1.1.0, more F sent c p h.1.0 e.payload h.1.1.1)))
+  owned_more sent c None e h = h
+  owned_more sent c (Some p) e h = (h.0, (h.1.0, (h.1.1.0, more F sent c p h.1.0 e.payload h.1.1.1)))
 
   carries_more : (sent : List (List ℕ)) (c : List ℕ) (o : Option ℕ) (d : List ℕ) → Carries sent o d → Carries (sent ++ (c ∷ [])) o d
-  carries_more sent c none d h = h
-  carries_more sent c (some p) d h = (h.0, (h.1.0, (h.1.1.0, (h.1.1.1.0, more F sent c p h.1.0 h.1.1.0 h.1.1.1.1))))
+  carries_more sent c None d h = h
+  carries_more sent c (Some p) d h = (h.0, (h.1.0, (h.1.1.0, (h.1.1.1.0, more F sent c p h.1.0 h.1.1.0 h.1.1.1.1))))
 
   owned_bytes : (sent : List (List ℕ)) (o : Option ℕ) (e : Entry) → Owned sent o e → Bytes e.payload
-  owned_bytes sent none e h = h.0.1
-  owned_bytes sent (some p) e h = h.0.1
+  owned_bytes sent None e h = h.0.1
+  owned_bytes sent (Some p) e h = h.0.1
 
-  entry_inj : {a b : Entry} → some a ≡ some b → a ≡ b
+  entry_inj : {a b : Entry} → Some a ≡ Some b → a ≡ b
   entry_inj e = cc
 
   -- a packet has taken a number
   flying_more : (sent : List (List ℕ)) (marks : List Mark) (s s' : State) (n : ℕ) (item : Option ℕ) (e : Entry)
-      → ((m : ℕ) (x : Entry) → m < 65536 → v.flight s m ≡ some x → Owned sent (latest m marks) x)
+      → ((m : ℕ) (x : Entry) → m < 65536 → v.flight s m ≡ Some x → Owned sent (latest m marks) x)
       → Stored l v s s' n e → Owned sent item e
-      → (m : ℕ) (x : Entry) → m < 65536 → v.flight s' m ≡ some x → Owned sent (latest m (record { number = n; item = item } ∷ marks)) x
+      → (m : ℕ) (x : Entry) → m < 65536 → v.flight s' m ≡ Some x → Owned sent (latest m (record { number = n; item = item } ∷ marks)) x
   unfolding latest
   flying_more sent marks s s' n item e old stored own m x h g =
       case (eqb m n)
@@ -184,15 +181,15 @@ module _ (l : Pair) (v : Views) (q : Promises l v) where
     -- an item of the stream goes out
     module _ (s' : State) (n : ℕ) (d : List ℕ) where
       out-mine : (payload : List ℕ) → Bytes payload → Went l v w.sender s' n d (next (v.upcoming w.sender)) (v.upcoming w.sender) payload
-          → Good (at_sender w s' (w.sent ++ (payload ∷ [])) (record { number = n; item = some (length w.sent) } ∷ w.marks) w.back
-          (record { item = some (length w.sent); datagram = d } ∷ w.line))
+          → Good (at_sender w s' (w.sent ++ (payload ∷ [])) (record { number = n; item = Some (length w.sent) } ∷ w.marks) w.back
+          (record { item = Some (length w.sent); datagram = d } ∷ w.line))
       out-mine payload pb t =
           record {
             ok_sender = t.ok;
             ok_receiver = g.ok_receiver;
             counts = t.count ∙ up;
             flying =
-                flying_more (w.sent ++ (payload ∷ [])) w.marks w.sender s' n (some (length w.sent)) (record { packet = t.sent; payload = payload })
+                flying_more (w.sent ++ (payload ∷ [])) w.marks w.sender s' n (Some (length w.sent)) (record { packet = t.sent; payload = payload })
                 (λ m x h f. owned_more w.sent payload (latest m w.marks) x (g.flying m x h f)) t.stored
                 ((t.typed, pb), (v.upcoming w.sender, (t.mine, of)));
             came = every_map _ _ (λ r h. owned_more w.sent payload r.item (record { packet = r.sent; payload = r.payload }) h) w.back g.came;
@@ -214,14 +211,14 @@ module _ (l : Pair) (v : Views) (q : Promises l v) where
 
       -- an item of the stream goes out again
       out-again : (p i : ℕ) (payload : List ℕ) → Bytes payload → Went l v w.sender s' n d (v.upcoming w.sender) i payload → Of F w.sent p i payload
-          → Good (at_sender w s' w.sent (record { number = n; item = some p } ∷ w.marks) w.back (record { item = some p; datagram = d } ∷ w.line))
+          → Good (at_sender w s' w.sent (record { number = n; item = Some p } ∷ w.marks) w.back (record { item = Some p; datagram = d } ∷ w.line))
       out-again p i payload pb t of =
           record {
             ok_sender = t.ok;
             ok_receiver = g.ok_receiver;
             counts = t.count ∙ g.counts;
             flying =
-                flying_more w.sent w.marks w.sender s' n (some p) (record { packet = t.sent; payload = payload }) g.flying t.stored
+                flying_more w.sent w.marks w.sender s' n (Some p) (record { packet = t.sent; payload = payload }) g.flying t.stored
                 ((t.typed, pb), (i, (t.mine, of)));
             came = g.came;
             carried = ((t.bytes, (i, (payload, (t.says, of)))), g.carried);
@@ -230,14 +227,14 @@ module _ (l : Pair) (v : Views) (q : Promises l v) where
 
       -- something else does
       out-other : (payload : List ℕ) → Bytes payload → Passed l v w.sender s' n d payload
-          → Good (at_sender w s' w.sent (record { number = n; item = none } ∷ w.marks) w.back (record { item = none; datagram = d } ∷ w.line))
+          → Good (at_sender w s' w.sent (record { number = n; item = None } ∷ w.marks) w.back (record { item = None; datagram = d } ∷ w.line))
       out-other payload pb t =
           record {
             ok_sender = t.ok;
             ok_receiver = g.ok_receiver;
             counts = t.count ∙ g.counts;
             flying =
-                flying_more w.sent w.marks w.sender s' n none (record { packet = t.sent; payload = payload }) g.flying t.stored
+                flying_more w.sent w.marks w.sender s' n None (record { packet = t.sent; payload = payload }) g.flying t.stored
                 ((t.typed, pb), t.other);
             came = g.came;
             carried = ((t.bytes, t.aside), g.carried);
@@ -245,7 +242,7 @@ module _ (l : Pair) (v : Views) (q : Promises l v) where
           }
 
     out-loose : (s' : State) (d : List ℕ) → Loose l v w.sender s' d
-        → Good (at_sender w s' w.sent w.marks w.back (record { item = none; datagram = d } ∷ w.line))
+        → Good (at_sender w s' w.sent w.marks w.back (record { item = None; datagram = d } ∷ w.line))
     out-loose s' d t =
         record {
           ok_sender = t.ok;
@@ -289,57 +286,57 @@ module _ (l : Pair) (v : Views) (q : Promises l v) where
       abbrev X : Sent
       X = send_of l.sending w.sender delivery ordering stream payload output
 
-      good-send : (b : Bool) → on_stream l.stream ordering stream ≡ b → (a : Going) → X.answer ≡ a
-          → Good (at_sender w X.end (counted a b payload w.sent) (marked a delivery (cond b (some (length w.sent)) none) w.marks) w.back (written a X.output (cond b (some (length w.sent)) none) w.line))
-      good-send true b (NotSent why) e = unchanged X.end (q.send-refused w.sender delivery ordering stream payload output why e)
-      good-send false b (NotSent why) e = unchanged X.end (q.send-refused w.sender delivery ordering stream payload output why e)
-      good-send true b (Datagram d) e =
+      good-send : (b : Bool) → on_stream l.stream ordering stream ≡ b → (a : Result Written Refusal) → X.answer ≡ a
+          → Good (at_sender w X.end (counted a b payload w.sent) (marked a delivery (cond b (Some (length w.sent)) None) w.marks) w.back (written a X.output (cond b (Some (length w.sent)) None) w.line))
+      good-send true b (Err why) e = unchanged X.end (q.send-refused w.sender delivery ordering stream payload output why e)
+      good-send false b (Err why) e = unchanged X.end (q.send-refused w.sender delivery ordering stream payload output why e)
+      good-send true b (Ok d) e =
           let t = q.send-mine w.sender delivery ordering stream payload output d g.ok_sender lent byte pb b e in
           reliable delivery t.0 t.1
         where
           reliable : (y : DeliveryGuarantee) → y ≡ Reliable
               → Went l v w.sender X.end d.number.0 (take d.length X.output) (next (v.upcoming w.sender)) (v.upcoming w.sender) payload
-              → Good (at_sender w X.end (w.sent ++ (payload ∷ [])) (marked (Datagram d) y (some (length w.sent)) w.marks) w.back (record { item = some (length w.sent); datagram = take d.length X.output } ∷ w.line))
+              → Good (at_sender w X.end (w.sent ++ (payload ∷ [])) (marked (Ok d) y (Some (length w.sent)) w.marks) w.back (record { item = Some (length w.sent); datagram = take d.length X.output } ∷ w.line))
           reliable Reliable r t = out-mine X.end d.number.0 (take d.length X.output) payload pb t
           reliable Unreliable r t = absurd (let z : ◌≡◌ {A = ℕ} 0 1 = cc in omega arith)
-      good-send false b (Datagram d) e = by delivery refl
+      good-send false b (Ok d) e = by delivery refl
         where
           by : (y : DeliveryGuarantee) → delivery ≡ y
-              → Good (at_sender w X.end w.sent (marked (Datagram d) y none w.marks) w.back (record { item = none; datagram = take d.length X.output } ∷ w.line))
+              → Good (at_sender w X.end w.sent (marked (Ok d) y None w.marks) w.back (record { item = None; datagram = take d.length X.output } ∷ w.line))
           by Reliable r =
-              let f : (send_of l.sending w.sender Reliable ordering stream payload output).answer ≡ Datagram d = rw r at e in
+              let f : (send_of l.sending w.sender Reliable ordering stream payload output).answer ≡ Ok d = rw r at e in
               rw r (out-other _ d.number.0 _ payload pb (q.send-other w.sender ordering stream payload output d g.ok_sender lent byte pb b f))
           by Unreliable r =
-              let f : (send_of l.sending w.sender Unreliable ordering stream payload output).answer ≡ Datagram d = rw r at e in
+              let f : (send_of l.sending w.sender Unreliable ordering stream payload output).answer ≡ Ok d = rw r at e in
               rw r (out-loose _ _ (q.send-loose w.sender ordering stream payload output d g.ok_sender lent byte pb b f))
 
     module _ (r : Back) (output : List ℕ) (lent : Lent l.sending output) where
       abbrev Y : Sent
       Y = resend_of l.sending w.sender r.sent r.payload output
 
-      good-resend : (o : Option ℕ) → Owned w.sent o (record { packet = r.sent; payload = r.payload }) → (a : Going) → Y.answer ≡ a
+      good-resend : (o : Option ℕ) → Owned w.sent o (record { packet = r.sent; payload = r.payload }) → (a : Result Written Refusal) → Y.answer ≡ a
           → Good (at_sender w Y.end (counted a false [] w.sent) (marked a Reliable o w.marks) w.back (written a Y.output o w.line))
-      good-resend o own (NotSent why) e = unchanged Y.end (q.resend-refused w.sender r.sent r.payload output why e)
-      good-resend (some p) own (Datagram d) e =
+      good-resend o own (Err why) e = unchanged Y.end (q.resend-refused w.sender r.sent r.payload output why e)
+      good-resend (Some p) own (Ok d) e =
           out-again Y.end d.number.0 (take d.length Y.output) p own.1.0 r.payload own.0.1
           (q.resend-mine w.sender r.sent own.1.0 r.payload output d g.ok_sender lent own.0.0 own.0.1 own.1.1.0 e) own.1.1.1
-      good-resend none own (Datagram d) e =
+      good-resend None own (Ok d) e =
           out-other Y.end d.number.0 (take d.length Y.output) r.payload own.0.1
           (q.resend-other w.sender r.sent r.payload output d g.ok_sender lent own.0.0 own.0.1 own.1 e)
 
-    good_drop : (output : List ℕ) → Lent l.sending output → (a : DroppedPackets) → drop_of l.sending w.sender output ≡ a
+    good_drop : (output : List ℕ) → Lent l.sending output → (a : Result (Option Dropped) Refusal) → drop_of l.sending w.sender output ≡ a
         → Good (at_sender w (dropped l.sending w.sender output) w.sent w.marks (given_back a (drop_output l.sending w.sender output) w.marks w.back) w.line)
-    good_drop output lent NoDrop e = still _ (q.drops w.sender output g.ok_sender) w.back g.came
-    good_drop output lent (NotDropped why) e = still _ (q.drops w.sender output g.ok_sender) w.back g.came
-    good_drop output lent (OneDrop d) e =
+    good_drop output lent (Ok None) e = still _ (q.drops w.sender output g.ok_sender) w.back g.came
+    good_drop output lent (Err why) e = still _ (q.drops w.sender output g.ok_sender) w.back g.came
+    good_drop output lent (Ok (Some d)) e =
         let t = q.dropped-was w.sender output d g.ok_sender lent e in
         still _ (q.drops w.sender output g.ok_sender) _ (g.flying d.number.0 _ t.0 t.1, g.came)
 
-    good-write : (n j : ℕ) (output : List ℕ) → Lent l.sending output → n < 65536 → (a : Further) → fragment_of l.sending w.sender n j output ≡ a
+    good-write : (n j : ℕ) (output : List ℕ) → Lent l.sending output → n < 65536 → (a : Result (Option ℕ) Refusal) → fragment_of l.sending w.sender n j output ≡ a
         → Good (at_sender w w.sender w.sent w.marks w.back (fragmented a (fragment_output l.sending w.sender n j output) w.line))
-    good-write n j output lent small NoFragment e = unchanged w.sender refl
-    good-write n j output lent small (NotWritten why) e = unchanged w.sender refl
-    good-write n j output lent small (Fragment count) e =
+    good-write n j output lent small (Ok None) e = unchanged w.sender refl
+    good-write n j output lent small (Err why) e = unchanged w.sender refl
+    good-write n j output lent small (Ok (Some count)) e =
         let t = q.wrote w.sender n j count output g.ok_sender lent (λ x f. owned_bytes w.sent (latest n w.marks) x (g.flying n x small f)) e in
         out-loose w.sender _ (record { ok = g.ok_sender; aside = t.0; bytes = t.1; count = refl; flying = λ m h. refl })
 
@@ -366,7 +363,7 @@ module _ (l : Pair) (v : Views) (q : Promises l v) where
 
     module _ (p i : ℕ) (b : List ℕ) (of : Of F w.sent p i b) (t : T w.quiet) (lo : length w.handed ≤ p + 32767) (hi : p ≤ length w.handed + 32768)
         (x : Received) (ok : v.ok_receiver x.end) where
-      landed : Landed l v w.receiver i b x → Good (arriving w (some p) x)
+      landed : Landed l v w.receiver i b x → Good (arriving w (Some p) x)
       landed (goes-out a is said zero-away moves keeps) =
           rw is
           (subst (λ (c : List ℕ). Good (at_receiver w x.end (w.handed ++ (c ∷ [])) (p ∷ w.accepted) false)) (sym said)
@@ -384,9 +381,9 @@ module _ (l : Pair) (v : Views) (q : Promises l v) where
 
     good-arrive : (d output : List ℕ) → Lent l.receiving output → (o : Option ℕ) → Carries w.sent o d
         → Waited w.quiet o → Window (length w.handed) o → Good (arriving w o (receive_of l.receiving w.receiver d output))
-    good-arrive d output lent none c t h =
+    good-arrive d output lent None c t h =
         same-stream _ (q.received-ok w.receiver d output g.ok_receiver c.0) (q.passes w.receiver d output g.ok_receiver c.1) w.quiet (λ y. y)
-    good-arrive d output lent (some p) c t h =
+    good-arrive d output lent (Some p) c t h =
         let of = c.1.1.1.1 in
         landed p c.1.0 c.1.1.0 of t h.0 h.1 _ (q.received-ok w.receiver d output g.ok_receiver c.0)
         (q.lands w.receiver d output c.1.0 c.1.1.0 g.ok_receiver lent c.1.1.1.0 (let y = of.index in omega arith) of.fits)
@@ -423,10 +420,10 @@ module _ (l : Pair) (v : Views) (q : Promises l v) where
         go (yes e) = e
         go (no n) = absurd (quiet_none t (y.before (length w.handed) (omega arith)))
 
-    good-refusals : (j p : ℕ) (output : List ℕ) → (o : Option ℕ) → o ≡ some p → Carries w.sent o (get_or w.line j no_copy).datagram → Lent l.receiving output
+    good-refusals : (j p : ℕ) (output : List ℕ) → (o : Option ℕ) → o ≡ Some p → Carries w.sent o (get_or w.line j no_copy).datagram → Lent l.receiving output
         → Refusals l w p (number_of_answer (receive_of l.receiving w.receiver (get_or w.line j no_copy).datagram output).answer)
-    good-refusals j p output none e c lent = absurd (let z : ◌≡◌ {A = ℕ} 0 1 = cc in omega arith)
-    good-refusals j p output (some r) e c lent =
+    good-refusals j p output None e c lent = absurd (let z : ◌≡◌ {A = ℕ} 0 1 = cc in omega arith)
+    good-refusals j p output (Some r) e c lent =
         let same : r ≡ p = cc in
         let of = c.1.1.1.1 in
         q.refuses w (get_or w.line j no_copy).datagram output p c.1.1.0 g.ok_receiver lent

@@ -6,7 +6,8 @@ use mathlib.Core.List.{List}
 use native.Mathlib.Omega.{arith}
 use borrow.Author.Tests.{ltb-false}
 use lib.Dec.{ltb, eqb}
-use Rattle.laws.proofs.Cases.{case}
+use Rattle.std.specs.Prelude.{Ok, Err}
+use Rattle.laws.proofs.Cases.{case, no_answer, same_answer}
 use Rattle.terms.specs.declared.Sizes.{Sizes}
 use Rattle.terms.specs.declared.Refusal.{Refusal}
 use Rattle.acks.specs.State.{table_of}
@@ -15,7 +16,6 @@ use Rattle.ends.specs.State.{State}
 use Rattle.sending.specs.Plan.{is_listed, is_long, stream_place, is_full, flight_place, plan_of}
 use Rattle.datagrams.specs.declared.Item.{Item}
 use Rattle.sending.specs.declared.plan.Sending.{Sending}
-use Rattle.sending.specs.declared.plan.Plan.TheVariants.{Refuse, Send}
 
 pub record Allowed (z : Sizes) (s : State) (i : Item) (n : ℕ) (q : Sending) : Type 0 where
   pub listed : is_listed i ≡ true
@@ -26,12 +26,6 @@ pub record Allowed (z : Sizes) (s : State) (i : Item) (n : ℕ) (q : Sending) : 
   pub at_is : q.at ≡ flight_place i.delivery s.acks.counters.sequence_number.0 (table_of z s.acks.number)
   pub stream_is : q.stream ≡ stream_place i s.ordered.counters s.sequenced
 
-refuse_send : {why : Refusal} {q : Sending} → Refuse why ≡ Send q → ⊥
-refuse_send e = let z : ◌≡◌ {A = ℕ} 0 1 = cc in omega arith
-
-send_inj : {p q : Sending} → Send p ≡ Send q → p ≡ q
-send_inj e = cc
-
 module _ (z : Sizes) (s : State) (i : Item) (n : ℕ) (q : Sending) where
   abbrev N : ℕ
   N = s.acks.counters.sequence_number.0
@@ -39,22 +33,22 @@ module _ (z : Sizes) (s : State) (i : Item) (n : ℕ) (q : Sending) where
   abbrev table : List ℕ
   table = table_of z s.acks.number
 
-  pub allowed : plan_of z s.acks.counters.sequence_number.0 s.ordered.counters s.sequenced (table_of z s.acks.number) i n ≡ Send q → Allowed z s i n q
+  pub allowed : plan_of z s.acks.counters.sequence_number.0 s.ordered.counters s.sequenced (table_of z s.acks.number) i n ≡ Ok q → Allowed z s i n q
   unfolding plan_of
   allowed =
       case (is_listed i)
       (λ a.
-      case (is_long z.fragment_size i n) (λ b. rw (a, b) (λ e. absurd (refuse_send e)))
+      case (is_long z.fragment_size i n) (λ b. rw (a, b) (λ e. no_answer e))
       (λ b.
-      case (ltb z.max_fragments (needed n z.fragment_size)) (λ c. rw (a, b, c) (λ e. absurd (refuse_send e)))
+      case (ltb z.max_fragments (needed n z.fragment_size)) (λ c. rw (a, b, c) (λ e. no_answer e))
       (λ c.
-      case (eqb (stream_place i s.ordered.counters s.sequenced) 4) (λ d. rw (a, b, c, d) (λ e. absurd (refuse_send e)))
+      case (eqb (stream_place i s.ordered.counters s.sequenced) 4) (λ d. rw (a, b, c, d) (λ e. no_answer e))
       (λ d.
-      case (is_full i.delivery N table) (λ g. rw (a, b, c, d, g) (λ e. absurd (refuse_send e)))
+      case (is_full i.delivery N table) (λ g. rw (a, b, c, d, g) (λ e. no_answer e))
       (λ g.
       rw (a, b, c, d, g)
       (λ e.
-      let same = send_inj e in
+      let same = same_answer e in
       record {
         listed = a;
         short = b;
@@ -63,4 +57,4 @@ module _ (z : Sizes) (s : State) (i : Item) (n : ℕ) (q : Sending) where
         room = g;
         at_is = sym (ap (λ (y : Sending). y.at) same);
         stream_is = sym (ap (λ (y : Sending). y.stream) same);
-      })))))) (λ a. rw a (λ e. absurd (refuse_send e)))
+      })))))) (λ a. rw a (λ e. no_answer e))

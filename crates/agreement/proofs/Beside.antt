@@ -7,10 +7,9 @@ use native.Mathlib.Omega.{arith}
 use borrow.Author.Tests.{ltb-false}
 use lib.Dec.{ltb, eqb}
 use lib.ListN.{length, drop, length-drop}
+use Rattle.std.specs.Prelude.{Result, Ok, Err, ⊤}
 use Rattle.laws.proofs.Cases.{case, lt_or_le}
 use Rattle.terms.specs.declared.Sizes.{Sizes}
-use Rattle.terms.specs.declared.Gate.{Gate}
-use Rattle.terms.specs.declared.Gate.TheVariants.{Open, Shut}
 use Rattle.acks.specs.State.{table_of}
 use Rattle.packet.specs.Read.{read_of}
 use Rattle.packet_table.specs.declared.Headers.{Headers}
@@ -18,13 +17,11 @@ use Rattle.packet_table.specs.declared.PacketType.{PacketType}
 use Rattle.packet_table.specs.declared.PacketType.TheVariants.{Packet, Fragment, Heartbeat}
 use Rattle.packet_table.specs.declared.OrderingGuarantee.{OrderingGuarantee}
 use Rattle.packet_table.specs.declared.OrderingGuarantee.TheVariants.{None, Sequenced as InSequence, Ordered as InOrder}
-use Rattle.packet.specs.declared.Read.{Read}
-use Rattle.packet.specs.declared.Read.TheVariants.{Found, Refused as Unread}
 use Rattle.ordering.specs.Take.{next_of}
 use Rattle.ordering_plan.specs.Arrange.{plan_of as item_plan}
 use Rattle.ordering_plan.specs.declared.OrderingStream.{OrderingStream}
 use Rattle.ordering_plan.specs.declared.Arranged.{Arranged}
-use Rattle.ordering_plan.specs.declared.Arranged.TheVariants.{Out as GoesOut, Held as IsHeld, Old as IsOld, Refused as IsRefused}
+use Rattle.ordering_plan.specs.declared.Arranged.TheVariants.{Out as GoesOut, Held as IsHeld, Old as IsOld}
 use Rattle.ordering_laws.specs.Held.{held_at}
 use Rattle.arranging_plan.specs.Ids.{place_of}
 use Rattle.arranging_plan.specs.Ordered.{States, part, stream_at, state_at, plan_on, next_on, taken_on}
@@ -39,8 +36,6 @@ use Rattle.sending.specs.Plan.{plan_of as send_plan}
 use Rattle.sending.specs.Send.{transmitted_as, transmitted_of}
 use Rattle.datagrams.specs.declared.Item.{Item}
 use Rattle.sending.specs.declared.plan.Sending.{Sending}
-use Rattle.sending.specs.declared.plan.Plan.{Plan}
-use Rattle.sending.specs.declared.plan.Plan.TheVariants.{Refuse, Send}
 use Rattle.link_incoming.specs.Calls.{receive_of, take_of}
 use Rattle.link_laws.proofs.Kept.{Kept}
 use Rattle.link_laws.proofs.Receive.{one_of_four}
@@ -48,6 +43,8 @@ use Rattle.agreement.proofs.Streams.{seen, Equal, equal_same, other_seen, ids_of
 use Rattle.agreement.proofs.Wire.{Beyond}
 use Rattle.agreement.proofs.Allowed.{Allowed, allowed}
 use Rattle.agreement.proofs.Numbered.{receives}
+use Rattle.terms.specs.declared.Refusal.{Refusal}
+use Rattle.packet.specs.declared.Found.{Found}
 
 module _ (z : Sizes) (id : ℕ) (r : State) (k : Kept z r) where
   abbrev f : ℕ
@@ -66,13 +63,13 @@ module _ (z : Sizes) (id : ℕ) (r : State) (k : Kept z r) where
     abbrev I : ℕ
     I = h.arranging.stream
 
-    arranged-left : (free : place_of r.ordered.counters.known I < 4) → (id ≡ I → ⊥) → (a : Arranged)
+    arranged-left : (free : place_of r.ordered.counters.known I < 4) → (id ≡ I → ⊥) → (a : Result Arranged Refusal)
         → item_plan (stream_at r.ordered.counters (place_of r.ordered.counters.known I)) (part r.ordered.index (place_of r.ordered.counters.known I * 64) 64) h.arranging.index.0 ≡ a
         → Left (packet_as (ordered_as a (record { at = place_of r.ordered.counters.known I; plan = a })) z h payload r output).end.ordered
-    arranged-left free other GoesOut e = other_seen f r.ordered k.ordered.whole I free _ (arranged_fits f r.ordered k.ordered.whole _ free h.arranging.index.0 payload short GoesOut e) id other
-    arranged-left free other (IsHeld j) e = other_seen f r.ordered k.ordered.whole I free _ (arranged_fits f r.ordered k.ordered.whole _ free h.arranging.index.0 payload short (IsHeld j) e) id other
-    arranged-left free other IsOld e = other_seen f r.ordered k.ordered.whole I free _ (arranged_fits f r.ordered k.ordered.whole _ free h.arranging.index.0 payload short IsOld e) id other
-    arranged-left free other (IsRefused why) e = same r.ordered refl
+    arranged-left free other (Ok GoesOut) e = other_seen f r.ordered k.ordered.whole I free _ (arranged_fits f r.ordered k.ordered.whole _ free h.arranging.index.0 payload short (Ok GoesOut) e) id other
+    arranged-left free other (Ok (IsHeld j)) e = other_seen f r.ordered k.ordered.whole I free _ (arranged_fits f r.ordered k.ordered.whole _ free h.arranging.index.0 payload short (Ok (IsHeld j)) e) id other
+    arranged-left free other (Ok IsOld) e = other_seen f r.ordered k.ordered.whole I free _ (arranged_fits f r.ordered k.ordered.whole _ free h.arranging.index.0 payload short (Ok IsOld) e) id other
+    arranged-left free other (Err why) e = same r.ordered refl
 
     by_ordering : (o : OrderingGuarantee) → h.standard.ordering ≡ o
         → Left (packet_as (plan_by o h.arranging r.ordered.counters r.ordered.index r.sequenced) z h payload r output).end.ordered
@@ -94,21 +91,21 @@ module _ (z : Sizes) (id : ℕ) (r : State) (k : Kept z r) where
     by_type_lem Fragment h payload short ne = same r.ordered refl
     by_type_lem Heartbeat h payload short ne = same r.ordered refl
 
-    by_read : (t : Read) → read_of z.version d ≡ t → Left (read_as t z r d output).end.ordered
-    by_read (Unread why) e = same r.ordered refl
-    by_read (Found h at) e =
-        case (ltb z.fragment_size (length d - at)) (λ q. rw q (same r.ordered refl))
+    by_read : (t : Result Found Refusal) → read_of z.version d ≡ t → Left (read_as t z r d output).end.ordered
+    by_read (Err why) e = same r.ordered refl
+    by_read (Ok x) e =
+        case (ltb z.fragment_size (length d - x.at)) (λ q. rw q (same r.ordered refl))
         (λ q.
         rw q
-        (by_type_lem h.standard.packet_type h (drop at d) (rw (length-drop at d) (ltb-false z.fragment_size (length d - at) q)) (λ g. beyond h at e g)))
+        (by_type_lem x.headers.standard.packet_type x.headers (drop x.at d) (rw (length-drop x.at d) (ltb-false z.fragment_size (length d - x.at) q)) (λ g. beyond x.headers x.at e g)))
 
     pub datagram-left : Left (receive_of z r d output).end.ordered
     unfolding receive_of received_of
     datagram-left = go (gate_of z r output) refl
       where
-        go : (g : Gate) → gate_of z r output ≡ g → Left (receive_of z r d output).end.ordered
-        go (Shut why) e = rw e (same r.ordered refl)
-        go Open e = rw e (by_read (read_of z.version d) refl)
+        go : (g : Result ⊤ Refusal) → gate_of z r output ≡ g → Left (receive_of z r d output).end.ordered
+        go (Err why) e = rw e (same r.ordered refl)
+        go (Ok tt) e = rw e (by_read (read_of z.version d) refl)
 
   -- ---- a take on another stream
 
@@ -127,9 +124,9 @@ module _ (z : Sizes) (id : ℕ) (r : State) (k : Kept z r) where
     unfolding take_of
     take_left = go (gate_of z r output) refl
       where
-        go : (g : Gate) → gate_of z r output ≡ g → Left (take_of z r stream output).end.ordered
-        go (Shut why) e = rw e (same r.ordered refl)
-        go Open e = rw e taken-left
+        go : (g : Result ⊤ Refusal) → gate_of z r output ≡ g → Left (take_of z r stream output).end.ordered
+        go (Err why) e = rw e (same r.ordered refl)
+        go (Ok tt) e = rw e taken-left
 
   -- ---- an item that is sent: what is expected and what is held are as they were
 
@@ -141,7 +138,7 @@ module _ (z : Sizes) (id : ℕ) (r : State) (k : Kept z r) where
   stays s e = record { expects = ap (λ (x : OrderingStream). x.expected_index.0) e.stream_is; keeps = e.keeps }
 
   module _ (i : Item) (payload output : List ℕ) where
-    by_order : (o : OrderingGuarantee) → i.ordering ≡ o → (q : Sending) → Allowed z r i (length payload) q → Stays (transmitted_as (Send q) z r i payload output).end.ordered
+    by_order : (o : OrderingGuarantee) → i.ordering ≡ o → (q : Sending) → Allowed z r i (length payload) q → Stays (transmitted_as (Ok q) z r i payload output).end.ordered
     by_order None e q a = rw e (stays r.ordered (same r.ordered refl))
     by_order InSequence e q a = rw e (stays r.ordered (same r.ordered refl))
     by_order InOrder e q a =
@@ -155,7 +152,7 @@ module _ (z : Sizes) (id : ℕ) (r : State) (k : Kept z r) where
     unfolding transmitted_of
     transmitted-stays = go (send_plan z r.acks.counters.sequence_number.0 r.ordered.counters r.sequenced (table_of z r.acks.number) i (length payload)) refl
       where
-        go : (p : Plan) → send_plan z r.acks.counters.sequence_number.0 r.ordered.counters r.sequenced (table_of z r.acks.number) i (length payload) ≡ p
+        go : (p : Result Sending Refusal) → send_plan z r.acks.counters.sequence_number.0 r.ordered.counters r.sequenced (table_of z r.acks.number) i (length payload) ≡ p
             → Stays (transmitted_of z r i payload output).end.ordered
-        go (Refuse why) e = rw e (stays r.ordered (same r.ordered refl))
-        go (Send q) e = rw e (by_order i.ordering refl q (allowed z r i (length payload) q e))
+        go (Err why) e = rw e (stays r.ordered (same r.ordered refl))
+        go (Ok q) e = rw e (by_order i.ordering refl q (allowed z r i (length payload) q e))

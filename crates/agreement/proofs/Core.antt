@@ -4,13 +4,13 @@ use Prim.Native.Nat.{ℕ, suc, ◌+◌, ◌≤◌, ◌<◌, ◌%◌}
 use mathlib.Core.Path.{◌≡◌, refl, sym, ap, ◌∙◌}
 use mathlib.Core.Logic.{◌⊎◌, inl, inr, ⊎_elim}
 use mathlib.Core.Bool.{Bool, true, false}
-use mathlib.Core.Option.{Option, none, some}
 use mathlib.Core.List.{List, [], ◌∷◌, ◌++◌}
 use native.Mathlib.Numerals.{add-one}
 use native.Mathlib.Omega.{arith}
 use lib.Dec.{T}
 use lib.ListN.{length, get_or, take, length-append, get_or-append}
 use lib.Seq.{take-suc, take-append-le}
+use Rattle.std.specs.Prelude.{Option, Some, None}
 use Rattle.serial.specs.Order.{back, next}
 use Rattle.ordering_laws.proofs.Found.{same?}
 use Rattle.laws.proofs.Cases.{lt_or_le}
@@ -31,25 +31,25 @@ pub record At (sent : List (List ℕ)) (e : ℕ) (accepted : List ℕ) (i : ℕ)
 
 -- an accepted item was handed out or is held
 abbrev pub Where : ℕ → Holding → ℕ → Type 0
-Where e holds j = (j < e) ⊎ ((e ≤ j) × (j ≤ e + 32768) × ((b : List ℕ) × (holds (j % 65536) ≡ some b)))
+Where e holds j = (j < e) ⊎ ((e ≤ j) × (j ≤ e + 32768) × ((b : List ℕ) × (holds (j % 65536) ≡ Some b)))
 
 pub record Inv (sent handed : List (List ℕ)) (accepted : List ℕ) (quiet : Bool) (x : ℕ) (holds : Holding) : Type 0 where
   pub begins : handed ≡ take (length handed) sent
   pub below : length handed ≤ length sent
   pub expects : x ≡ length handed % 65536
-  pub holding : (i : ℕ) (b : List ℕ) → i < 65536 → holds i ≡ some b → At sent (length handed) accepted i b
+  pub holding : (i : ℕ) (b : List ℕ) → i < 65536 → holds i ≡ Some b → At sent (length handed) accepted i b
   pub done : (j : ℕ) → j < length handed → Has j accepted
   pub sents : (j : ℕ) → Has j accepted → j < length sent
   pub kept : (j : ℕ) → Has j accepted → Where (length handed) holds j
-  pub calm : T quiet → holds x ≡ none
+  pub calm : T quiet → holds x ≡ None
 
-pub some_none : {p : List ℕ} → some p ≡ none → ⊥
+pub some_none : {p : List ℕ} → Some p ≡ None → ⊥
 some_none e = let z : ◌≡◌ {A = ℕ} 0 1 = cc in omega arith
 
-some_inj : {p q : List ℕ} → some p ≡ some q → p ≡ q
+some_inj : {p q : List ℕ} → Some p ≡ Some q → p ≡ q
 some_inj e = cc
 
-pub inv_start : (holds : Holding) → ((i : ℕ) → holds i ≡ none) → Inv [] [] [] true 0 holds
+pub inv_start : (holds : Holding) → ((i : ℕ) → holds i ≡ None) → Inv [] [] [] true 0 holds
 inv_start holds n =
     record {
       begins = refl;
@@ -138,7 +138,7 @@ module _ (sent handed : List (List ℕ)) (accepted : List ℕ) (quiet : Bool) (x
       as_before j (inr h) = inr (h.0, h.1, (h.2.0, keeps (j % 65536) (omega arith) ∙ h.2.1))
 
   -- a take has found none
-  pub inv_none : (x' : ℕ) (holds' : Holding) → x' ≡ x → ((y : ℕ) → y < 65536 → holds' y ≡ holds y) → holds x ≡ none → Inv sent handed accepted true x' holds'
+  pub inv_none : (x' : ℕ) (holds' : Holding) → x' ≡ x → ((y : ℕ) → y < 65536 → holds' y ≡ holds y) → holds x ≡ None → Inv sent handed accepted true x' holds'
   inv_none x' holds' same keeps nothing =
       let u = inv_same x' holds' same keeps false (λ t. absurd t) in
       record {
@@ -190,7 +190,7 @@ module _ (sent handed : List (List ℕ)) (accepted : List ℕ) (quiet : Bool) (x
       (same? j E)
 
   -- a take has handed out what was held
-  pub inv_item : (b : List ℕ) (x' : ℕ) (holds' : Holding) → holds x ≡ some b → x' ≡ next x → holds' x ≡ none
+  pub inv_item : (b : List ℕ) (x' : ℕ) (holds' : Holding) → holds x ≡ Some b → x' ≡ next x → holds' x ≡ None
       → ((y : ℕ) → y < 65536 → (y ≡ x → ⊥) → holds' y ≡ holds y) → Inv sent (handed ++ (b ∷ [])) accepted false x' holds'
   inv_item b x' holds' found step_is gone keeps =
       record {
@@ -252,7 +252,7 @@ module _ (sent handed : List (List ℕ)) (accepted : List ℕ) (quiet : Bool) (x
         kept_at j (inl h) = inl (rw length_snoc (omega (arith, h, here)))
         kept_at j (inr h) = moved b holds' (λ y l ne. keeps y l) j (v.kept j h)
 
-    pub inv-held : (x' : ℕ) (holds' : Holding) → 1 ≤ back i x → back i x ≤ 32768 → x' ≡ x → holds' i ≡ some b
+    pub inv-held : (x' : ℕ) (holds' : Holding) → 1 ≤ back i x → back i x ≤ 32768 → x' ≡ x → holds' i ≡ Some b
         → ((y : ℕ) → y < 65536 → (y ≡ i → ⊥) → holds' y ≡ holds y) → Inv sent handed (p ∷ accepted) false x' holds'
     inv-held x' holds' one near same put keeps =
         record {
@@ -270,7 +270,7 @@ module _ (sent handed : List (List ℕ)) (accepted : List ℕ) (quiet : Bool) (x
         ahead : E < p
         ahead = at_near E p x v.expects lo hi (rw index at one) (rw index at near)
 
-        new : (j : ℕ) (c : List ℕ) → j ≡ i → holds' j ≡ some c → At sent E (p ∷ accepted) j c
+        new : (j : ℕ) (c : List ℕ) → j ≡ i → holds' j ≡ Some c → At sent E (p ∷ accepted) j c
         new j c e h =
             record {
               q = p;

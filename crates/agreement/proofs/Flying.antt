@@ -2,7 +2,6 @@
 use Prim.Native.Nat.{ℕ, ◌*◌, ◌≤◌, ◌<◌}
 use mathlib.Core.Path.{◌≡◌, sym, ap, ◌∙◌}
 use mathlib.Core.Bool.{Bool, true, false, cond}
-use mathlib.Core.Option.{Option, none, some}
 use mathlib.Core.List.{List, map, ◌++◌}
 use native.Mathlib.Nat.{mul-le-mul_right}
 use native.Mathlib.Omega.{arith}
@@ -10,6 +9,7 @@ use borrow.Author.Tests.{ltb-true}
 use lib.Dec.{ltb, eqb}
 use lib.ListN.{length, get_or, set, drop, length-map, length-set}
 use lib.Seq.{length-take-le, take_at, take-set-lt, paste}
+use Rattle.std.specs.Prelude.{Option, Some, None}
 use Rattle.laws.proofs.Cases.{each}
 use Rattle.laws.proofs.Slots.{slot_end, part_length}
 use Rattle.keys.specs.Keys.{first_place}
@@ -24,7 +24,6 @@ use Rattle.flight.specs.Lost.{is_lost, least_lost, number_left, drop_of as lost_
 use Rattle.flight.specs.View.{Flight, Sent as Entry, view, Fits}
 use Rattle.flight.specs.declared.SentPacket.{SentPacket}
 use Rattle.flight.specs.declared.lost.Dropped.{Dropped}
-use Rattle.flight.specs.declared.lost.Drop.TheVariants.{Packet as OneDrop}
 use Rattle.flight.proofs.Given.{drop_means, facts}
 use Rattle.flight.proofs.Found.{least_found, fits_at}
 use Rattle.flight.proofs.Viewed.{word_at}
@@ -34,7 +33,7 @@ use Rattle.acks.specs.State.{State as Acks, table_of, slot_of, unacked}
 use Rattle.acknowledgment_laws.specs.Runs.{Typed}
 use Rattle.acknowledgment_laws.proofs.Unbroken.{Good, flight_of}
 
-cond_some : (b : Bool) (x : Option Entry) (e : Entry) → cond b none x ≡ some e → x ≡ some e
+cond_some : (b : Bool) (x : Option Entry) (e : Entry) → cond b None x ≡ Some e → x ≡ Some e
 cond_some true x e h = absurd (let z : ◌≡◌ {A = ℕ} 0 1 = cc in omega arith)
 cond_some false x e h = h
 
@@ -61,8 +60,8 @@ module _ (z : Sizes) (s : Acks) (range : in_range z ≡ true) (g : Good z s) whe
       (length-map (table_of z s.number) (emptied (is_told acked field)) ∙ table_length)
 
   pub heard_keeps : (acked field m : ℕ) (e : Entry) → m < 65536
-      → view (slot_of z) (record { number = table_of z (unacked z s.number acked field); records = s.records; bytes = s.bytes }) m ≡ some e
-      → view (slot_of z) (flight_of z s) m ≡ some e
+      → view (slot_of z) (record { number = table_of z (unacked z s.number acked field); records = s.records; bytes = s.bytes }) m ≡ Some e
+      → view (slot_of z) (flight_of z s) m ≡ Some e
   heard_keeps acked field m e h q =
       cond_some (is_acked acked field m) (view room fl m) e
       (sym (facts.acked_view room fl acked field m h)
@@ -89,7 +88,7 @@ module _ (z : Sizes) (s : Acks) (range : in_range z ≡ true) (g : Good z s) whe
 
     pub sent-view : (m : ℕ) → m < 65536
         → view (slot_of z) (record { number = table_of z (set s.number (place_of s.counters.sequence_number.0 (numbers_in (table_of z s.number))) (word_of s.counters.sequence_number.0 (length payload))); records = set s.records (place_of s.counters.sequence_number.0 (numbers_in (table_of z s.number))) (packed sent); bytes = paste s.bytes (place_of s.counters.sequence_number.0 (numbers_in (table_of z s.number)) * slot_of z) payload (length payload) }) m
-        ≡ cond (eqb m s.counters.sequence_number.0) (some (record { packet = sent; payload = payload })) (view (slot_of z) (flight_of z s) m)
+        ≡ cond (eqb m s.counters.sequence_number.0) (Some (record { packet = sent; payload = payload })) (view (slot_of z) (flight_of z s) m)
     sent-view m h =
         let within = place-within room fl g.flying local sent payload g.next fits roomy in
         ap (λ (x : List ℕ). view room (record { number = x; records = set s.records at (packed sent); bytes = paste s.bytes (at * room) payload (length payload) }) m)
@@ -97,19 +96,19 @@ module _ (z : Sizes) (s : Acks) (range : in_range z ≡ true) (g : Good z s) whe
         ∙ facts.stored_view room fl local sent payload g.flying g.next fits roomy m h
 
   -- one is given up
-  module _ (d : Dropped) (remote : ℕ) (e : lost_of remote (table_of z s.number) s.records ≡ OneDrop d) where
+  module _ (d : Dropped) (remote : ℕ) (e : lost_of remote (table_of z s.number) s.records ≡ Some d) where
     pub lost-word : d.number.0 < 65536
     unfolding is_lost
     lost-word = ltb-true d.number.0 65536 (each (ltb d.number.0 65536) _ (facts.lost fl remote d e)).0
 
-    left-table : table_of z (number_left (OneDrop d) (table_of z s.number) ++ drop N s.number) ≡ number_left (OneDrop d) (table_of z s.number)
+    left-table : table_of z (number_left (Some d) (table_of z s.number) ++ drop N s.number) ≡ number_left (Some d) (table_of z s.number)
     left-table =
-        take_at (number_left (OneDrop d) (table_of z s.number)) (drop N s.number) N
+        take_at (number_left (Some d) (table_of z s.number)) (drop N s.number) N
         (length-set (table_of z s.number) (first_place d.number.0 (numbers_in (table_of z s.number))) no_number ∙ table_length)
 
     pub dropped_keeps : (m : ℕ) (x : Entry) → m < 65536
-        → view (slot_of z) (record { number = table_of z (number_left (OneDrop d) (table_of z s.number) ++ drop z.packets_in_flight s.number); records = s.records; bytes = s.bytes }) m ≡ some x
-        → view (slot_of z) (flight_of z s) m ≡ some x
+        → view (slot_of z) (record { number = table_of z (number_left (Some d) (table_of z s.number) ++ drop z.packets_in_flight s.number); records = s.records; bytes = s.bytes }) m ≡ Some x
+        → view (slot_of z) (flight_of z s) m ≡ Some x
     dropped_keeps m x h q =
         cond_some (eqb m d.number.0) (view room fl m) x
         (sym (facts.dropped_view room fl remote d g.flying e m h)
@@ -117,7 +116,7 @@ module _ (z : Sizes) (s : Acks) (range : in_range z ≡ true) (g : Good z s) whe
         ∙ q)
 
     pub given : view (slot_of z) (flight_of z s) d.number.0
-        ≡ some (record { packet = d.sent; payload = bytes_at (slot_of z) s.bytes (first_place d.number.0 (numbers_in (table_of z s.number))) d.count })
+        ≡ Some (record { packet = d.sent; payload = bytes_at (slot_of z) s.bytes (first_place d.number.0 (numbers_in (table_of z s.number))) d.count })
     given = facts.given_back room fl remote d e
 
     -- the payload that is given back has the length that is told

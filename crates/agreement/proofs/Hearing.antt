@@ -2,15 +2,13 @@
 use Prim.Native.Nat.{ℕ, ◌-◌, ◌<◌}
 use mathlib.Core.Path.{◌≡◌, refl}
 use mathlib.Core.Bool.{Bool, true, false, cond}
-use mathlib.Core.Option.{some}
 use mathlib.Core.List.{List}
 use lib.Dec.{ltb}
 use lib.ListN.{length, drop}
+use Rattle.std.specs.Prelude.{Result, Ok, Err, Option, Some, None, ⊤}
 use Rattle.laws.proofs.Cases.{case}
 use Rattle.terms.specs.Sizes.{in_range}
 use Rattle.terms.specs.declared.Sizes.{Sizes}
-use Rattle.terms.specs.declared.Gate.{Gate}
-use Rattle.terms.specs.declared.Gate.TheVariants.{Open, Shut}
 use Rattle.flight.specs.View.{Sent as Entry, view}
 use Rattle.acks.specs.State.{State as Acks, slot_of}
 use Rattle.acknowledgment_laws.proofs.Unbroken.{flight_of}
@@ -20,10 +18,6 @@ use Rattle.packet_table.specs.declared.PacketType.{PacketType}
 use Rattle.packet_table.specs.declared.PacketType.TheVariants.{Packet, Fragment, Heartbeat}
 use Rattle.packet_table.specs.declared.DeliveryGuarantee.{DeliveryGuarantee}
 use Rattle.packet_table.specs.declared.DeliveryGuarantee.TheVariants.{Unreliable, Reliable}
-use Rattle.packet.specs.declared.Read.{Read}
-use Rattle.packet.specs.declared.Read.TheVariants.{Found, Refused as Unread}
-use Rattle.reassembly.specs.declared.effects.Answer.{Answer as PartAnswer}
-use Rattle.reassembly.specs.declared.effects.Answer.TheVariants.{Waiting, Whole, Refused as NotJoined}
 use Rattle.ends.specs.State.{State}
 use Rattle.ends.specs.Gate.{gate_of}
 use Rattle.receiving_plan.specs.Plan.{plan_of, refuses}
@@ -33,12 +27,15 @@ use Rattle.receiving.specs.Receive.{hearing, by_type, read_as, received_of}
 use Rattle.link_incoming.specs.Calls.{receive_of}
 use Rattle.link_laws.proofs.Kept.{Kept}
 use Rattle.agreement.proofs.Flying.{heard_keeps}
+use Rattle.terms.specs.declared.Refusal.{Refusal}
+use Rattle.packet.specs.declared.Found.{Found}
+use Rattle.reassembly.specs.declared.effects.Message.{Message}
 
 module _ (z : Sizes) (s : State) (range : in_range z ≡ true) (k : Kept z s) where
   -- what is in flight after it was so before
   abbrev pub Fewer : Acks → Type 0
   Fewer a =
-      (m : ℕ) (e : Entry) → m < 65536 → view (slot_of z) (flight_of z a) m ≡ some e → view (slot_of z) (flight_of z s.acks) m ≡ some e
+      (m : ℕ) (e : Entry) → m < 65536 → view (slot_of z) (flight_of z a) m ≡ Some e → view (slot_of z) (flight_of z s.acks) m ≡ Some e
 
   same : Fewer s.acks
   same m e h q = q
@@ -52,10 +49,10 @@ module _ (z : Sizes) (s : State) (range : in_range z ≡ true) (k : Kept z s) wh
   by_refusal true h = same
   by_refusal false h = by_delivery h.standard.delivery h
 
-  by_part : (a : PartAnswer) → Fewer (hearing (acks_at_whole a z s.acks.counters s.acks.received s.acks.number) s.acks)
-  by_part Waiting = same
-  by_part (Whole w) = λ m e l q. heard_keeps z s.acks range k.acks w.header.acked.0 w.header.field m e l q
-  by_part (NotJoined why) = same
+  by_part : (a : Result (Option Message) Refusal) → Fewer (hearing (acks_at_whole a z s.acks.counters s.acks.received s.acks.number) s.acks)
+  by_part (Ok None) = same
+  by_part (Ok (Some w)) = λ m e l q. heard_keeps z s.acks range k.acks w.header.acked.0 w.header.field m e l q
+  by_part (Err why) = same
 
   module _ (d output : List ℕ) where
     by_type_lem : (t : PacketType) (h : Headers) (payload : List ℕ) → Fewer (by_type t z h payload s output).end.acks
@@ -63,15 +60,15 @@ module _ (z : Sizes) (s : State) (range : in_range z ≡ true) (k : Kept z s) wh
     by_type_lem Fragment h payload = by_part (part_answer z h payload s.parts)
     by_type_lem Heartbeat h payload = same
 
-    by_read : (t : Read) → Fewer (read_as t z s d output).end.acks
-    by_read (Unread why) = same
-    by_read (Found h at) =
-        case (ltb z.fragment_size (length d - at)) (λ q. rw q same) (λ q. rw q (by_type_lem h.standard.packet_type h (drop at d)))
+    by_read : (t : Result Found Refusal) → Fewer (read_as t z s d output).end.acks
+    by_read (Err why) = same
+    by_read (Ok r) =
+        case (ltb z.fragment_size (length d - r.at)) (λ q. rw q same) (λ q. rw q (by_type_lem r.headers.standard.packet_type r.headers (drop r.at d)))
 
     pub heard-fewer : Fewer (receive_of z s d output).end.acks
     unfolding receive_of received_of
     heard-fewer = go (gate_of z s output) refl
       where
-        go : (g : Gate) → gate_of z s output ≡ g → Fewer (receive_of z s d output).end.acks
-        go (Shut why) e = rw e same
-        go Open e = rw e (by_read (read_of z.version d))
+        go : (g : Result ⊤ Refusal) → gate_of z s output ≡ g → Fewer (receive_of z s d output).end.acks
+        go (Err why) e = rw e same
+        go (Ok tt) e = rw e (by_read (read_of z.version d))

@@ -4,29 +4,25 @@ use Prim.Native.Nat.{ℕ, suc, ◌≤◌, ◌<◌, ◌%◌}
 use mathlib.Core.Path.{◌≡◌}
 use mathlib.Core.Bool.{true, false, cond}
 use mathlib.Core.List.{List}
-use mathlib.Core.Option.{Option, none, some}
 use lib.Dec.{eqb}
 use lib.ListN.{length, take}
+use Rattle.std.specs.Prelude.{Ok, Err, Option, Some, None}
 use Rattle.serial.specs.Order.{back, next}
 use Rattle.terms.specs.declared.Refusal.{Refusal}
 use Rattle.flight.specs.View.{Sent as Entry}
 use Rattle.flight.specs.declared.SentPacket.{SentPacket}
 use Rattle.flight.specs.declared.lost.Dropped.{Dropped as Drop}
-use Rattle.acknowledgment.specs.declared.DroppedPackets.TheVariants.{Packet as OneDrop}
 use Rattle.acknowledgment_laws.specs.Runs.{Typed}
 use Rattle.packet_table.specs.Numbers.{Bytes}
 use Rattle.packet_table.specs.declared.DeliveryGuarantee.{DeliveryGuarantee}
 use Rattle.packet_table.specs.declared.DeliveryGuarantee.TheVariants.{Unreliable, Reliable}
 use Rattle.packet_table.specs.declared.OrderingGuarantee.{OrderingGuarantee}
-use Rattle.ordering.specs.declared.Taken.TheVariants.{Item, Nothing}
 use Rattle.ends.specs.State.{State}
 use Rattle.receiving_plan.specs.Plan.{number_of_answer}
 use Rattle.receiving.specs.Receive.{Step as Received}
 use Rattle.receiving_plan.specs.declared.Item.{Item as Arrived}
-use Rattle.receiving_plan.specs.declared.Answer.TheVariants.{Out, Held, Old, Refused as NotReceived}
+use Rattle.receiving_plan.specs.declared.Answer.TheVariants.{Out, Held, Old}
 use Rattle.sending.specs.declared.Written.{Written}
-use Rattle.sending.specs.declared.Answer.TheVariants.{Datagram, Refused as NotSent}
-use Rattle.datagrams.specs.declared.further.Further.TheVariants.{Datagram as Fragment}
 use Rattle.link_incoming.specs.Calls.{receive_of, take_of, Taking}
 use Rattle.link_outgoing.specs.Calls.{send_of, resend_of, fragment_of, fragment_output}
 use Rattle.link.specs.Calls.{drop_of, drop_output}
@@ -68,7 +64,7 @@ module _ (l : Pair) (v : Views) where
 
   -- under number n goes what is sent, and every other number is as it was
   abbrev pub Stored : State → State → ℕ → Entry → Type 0
-  Stored s s' n e = (m : ℕ) → m < 65536 → v.flight s' m ≡ cond (eqb m n) (some e) (v.flight s m)
+  Stored s s' n e = (m : ℕ) → m < 65536 → v.flight s' m ≡ cond (eqb m n) (Some e) (v.flight s m)
 
   -- an item of the stream went out, in that datagram, under packet number n
   pub record Went (s s' : State) (n : ℕ) (datagram : List ℕ) (up i : ℕ) (b : List ℕ) : Type 0 where
@@ -104,7 +100,7 @@ module _ (l : Pair) (v : Views) where
   pub record Quiet (s s' : State) : Type 0 where
     pub ok : v.ok_sender s'
     pub count : v.upcoming s' ≡ v.upcoming s
-    pub keeps : (m : ℕ) (e : Entry) → m < 65536 → v.flight s' m ≡ some e → v.flight s m ≡ some e
+    pub keeps : (m : ℕ) (e : Entry) → m < 65536 → v.flight s' m ≡ Some e → v.flight s m ≡ Some e
 
   -- the receiver's stream is as it was
   pub record Same (r r' : State) : Type 0 where
@@ -113,65 +109,65 @@ module _ (l : Pair) (v : Views) where
 
   -- what becomes of an item that has come
   pub data Landed (r : State) (i : ℕ) (b : List ℕ) (x : Received) : Type 0 where
-    goes-out : (a : Arrived) → x.answer ≡ Out a → take a.length x.output ≡ b → back i (v.expected r) ≡ 0
+    goes-out : (a : Arrived) → x.answer ≡ Ok (Out a) → take a.length x.output ≡ b → back i (v.expected r) ≡ 0
         → v.expected x.end ≡ next (v.expected r) → ((y : ℕ) → y < 65536 → v.holds x.end y ≡ v.holds r y) → Landed r i b x
-    is_held : x.answer ≡ Held → 1 ≤ back i (v.expected r) → back i (v.expected r) ≤ 32768 → v.expected x.end ≡ v.expected r
-        → v.holds x.end i ≡ some b → ((y : ℕ) → y < 65536 → (y ≡ i → ⊥) → v.holds x.end y ≡ v.holds r y) → Landed r i b x
-    is-old : x.answer ≡ Old → 32769 ≤ back i (v.expected r) → Same r x.end → Landed r i b x
-    is-refused : (why : Refusal) → x.answer ≡ NotReceived why → Same r x.end → Landed r i b x
+    is_held : x.answer ≡ Ok Held → 1 ≤ back i (v.expected r) → back i (v.expected r) ≤ 32768 → v.expected x.end ≡ v.expected r
+        → v.holds x.end i ≡ Some b → ((y : ℕ) → y < 65536 → (y ≡ i → ⊥) → v.holds x.end y ≡ v.holds r y) → Landed r i b x
+    is-old : x.answer ≡ Ok Old → 32769 ≤ back i (v.expected r) → Same r x.end → Landed r i b x
+    is-refused : (why : Refusal) → x.answer ≡ Err why → Same r x.end → Landed r i b x
 
   -- what a take does
   pub data Took (r : State) (x : Taking) : Type 0 where
-    took-item : (n : ℕ) → x.answer ≡ Item n → v.holds r (v.expected r) ≡ some (take n x.output) → v.expected x.end ≡ next (v.expected r)
-        → v.holds x.end (v.expected r) ≡ none → ((y : ℕ) → y < 65536 → (y ≡ v.expected r → ⊥) → v.holds x.end y ≡ v.holds r y)
+    took-item : (n : ℕ) → x.answer ≡ Ok (Some n) → v.holds r (v.expected r) ≡ Some (take n x.output) → v.expected x.end ≡ next (v.expected r)
+        → v.holds x.end (v.expected r) ≡ None → ((y : ℕ) → y < 65536 → (y ≡ v.expected r → ⊥) → v.holds x.end y ≡ v.holds r y)
         → suc (v.many x.end) ≡ v.many r → Took r x
-    took-none : x.answer ≡ Nothing → v.holds r (v.expected r) ≡ none → Same r x.end → Took r x
+    took-none : x.answer ≡ Ok None → v.holds r (v.expected r) ≡ None → Same r x.end → Took r x
 
   pub record Promises : Type 0 where
     -- fresh ends
     pub first-sender : (s : State) (o : List ℕ) → New l.sending s o
-        → v.ok_sender s × (v.upcoming s ≡ 0) × ((m : ℕ) → m < 65536 → v.flight s m ≡ none)
+        → v.ok_sender s × (v.upcoming s ≡ 0) × ((m : ℕ) → m < 65536 → v.flight s m ≡ None)
     pub first-receiver : (r : State) (o : List ℕ) → New l.receiving r o
-        → v.ok_receiver r × (v.expected r ≡ 0) × ((y : ℕ) → v.holds r y ≡ none)
+        → v.ok_receiver r × (v.expected r ≡ 0) × ((y : ℕ) → v.holds r y ≡ None)
     -- the sender
     pub send-mine : (s : State) (delivery : DeliveryGuarantee) (ordering : OrderingGuarantee) (stream : ℕ) (payload output : List ℕ) (d : Written)
         → v.ok_sender s → Lent l.sending output → stream < 256 → Bytes payload → on_stream l.stream ordering stream ≡ true
-        → (send_of l.sending s delivery ordering stream payload output).answer ≡ Datagram d
+        → (send_of l.sending s delivery ordering stream payload output).answer ≡ Ok d
         → (delivery ≡ Reliable)
         × Went s (send_of l.sending s delivery ordering stream payload output).end d.number.0
         (take d.length (send_of l.sending s delivery ordering stream payload output).output) (next (v.upcoming s)) (v.upcoming s) payload
     pub send-other : (s : State) (ordering : OrderingGuarantee) (stream : ℕ) (payload output : List ℕ) (d : Written)
         → v.ok_sender s → Lent l.sending output → stream < 256 → Bytes payload → on_stream l.stream ordering stream ≡ false
-        → (send_of l.sending s Reliable ordering stream payload output).answer ≡ Datagram d
+        → (send_of l.sending s Reliable ordering stream payload output).answer ≡ Ok d
         → Passed s (send_of l.sending s Reliable ordering stream payload output).end d.number.0
         (take d.length (send_of l.sending s Reliable ordering stream payload output).output) payload
     pub send-loose : (s : State) (ordering : OrderingGuarantee) (stream : ℕ) (payload output : List ℕ) (d : Written)
         → v.ok_sender s → Lent l.sending output → stream < 256 → Bytes payload → on_stream l.stream ordering stream ≡ false
-        → (send_of l.sending s Unreliable ordering stream payload output).answer ≡ Datagram d
+        → (send_of l.sending s Unreliable ordering stream payload output).answer ≡ Ok d
         → Loose s (send_of l.sending s Unreliable ordering stream payload output).end
         (take d.length (send_of l.sending s Unreliable ordering stream payload output).output)
     pub send-refused : (s : State) (delivery : DeliveryGuarantee) (ordering : OrderingGuarantee) (stream : ℕ) (payload output : List ℕ) (why : Refusal)
-        → (send_of l.sending s delivery ordering stream payload output).answer ≡ NotSent why
+        → (send_of l.sending s delivery ordering stream payload output).answer ≡ Err why
         → (send_of l.sending s delivery ordering stream payload output).end ≡ s
     pub resend-mine : (s : State) (sent : SentPacket) (i : ℕ) (payload output : List ℕ) (d : Written)
         → v.ok_sender s → Lent l.sending output → Typed sent → Bytes payload → Mine l.stream i sent
-        → (resend_of l.sending s sent payload output).answer ≡ Datagram d
+        → (resend_of l.sending s sent payload output).answer ≡ Ok d
         → Went s (resend_of l.sending s sent payload output).end d.number.0
         (take d.length (resend_of l.sending s sent payload output).output) (v.upcoming s) i payload
     pub resend-other : (s : State) (sent : SentPacket) (payload output : List ℕ) (d : Written)
         → v.ok_sender s → Lent l.sending output → Typed sent → Bytes payload → Other l.stream sent
-        → (resend_of l.sending s sent payload output).answer ≡ Datagram d
+        → (resend_of l.sending s sent payload output).answer ≡ Ok d
         → Passed s (resend_of l.sending s sent payload output).end d.number.0
         (take d.length (resend_of l.sending s sent payload output).output) payload
     pub resend-refused : (s : State) (sent : SentPacket) (payload output : List ℕ) (why : Refusal)
-        → (resend_of l.sending s sent payload output).answer ≡ NotSent why → (resend_of l.sending s sent payload output).end ≡ s
+        → (resend_of l.sending s sent payload output).answer ≡ Err why → (resend_of l.sending s sent payload output).end ≡ s
     pub dropped-was : (s : State) (output : List ℕ) (d : Drop) → v.ok_sender s → Lent l.sending output
-        → drop_of l.sending s output ≡ OneDrop d
+        → drop_of l.sending s output ≡ Ok (Some d)
         → (d.number.0 < 65536)
-        × (v.flight s d.number.0 ≡ some (record { packet = d.sent; payload = take d.count (drop_output l.sending s output) }))
+        × (v.flight s d.number.0 ≡ Some (record { packet = d.sent; payload = take d.count (drop_output l.sending s output) }))
     pub drops : (s : State) (output : List ℕ) → v.ok_sender s → Quiet s (dropped l.sending s output)
     pub wrote : (s : State) (n j count : ℕ) (output : List ℕ) → v.ok_sender s → Lent l.sending output
-        → ((e : Entry) → v.flight s n ≡ some e → Bytes e.payload) → fragment_of l.sending s n j output ≡ Fragment count
+        → ((e : Entry) → v.flight s n ≡ Some e → Bytes e.payload) → fragment_of l.sending s n j output ≡ Ok (Some count)
         → v.Aside (take count (fragment_output l.sending s n j output)) × Bytes (take count (fragment_output l.sending s n j output))
     pub hears : (s : State) (datagram output : List ℕ) → v.ok_sender s → Bytes datagram → Quiet s (receive_of l.sending s datagram output).end
     pub collects : (s : State) (stream : ℕ) (output : List ℕ) → v.ok_sender s → Quiet s (take_of l.sending s stream output).end

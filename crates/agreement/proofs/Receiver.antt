@@ -8,6 +8,7 @@ use borrow.Author.Tests.{ne_eqb, eqb-true, eqb-false, ltb-true, ltb-false, le-lt
 use lib.Dec.{ltb, eqb}
 use lib.ListN.{length, take, drop, length-drop}
 use lib.Seq.{take_at}
+use Rattle.std.specs.Prelude.{Ok, Result, Err}
 use Rattle.laws.proofs.Cases.{case, lt_or_le}
 use Rattle.serial.specs.Order.{back}
 use Rattle.terms.specs.declared.Sizes.{Sizes}
@@ -15,7 +16,7 @@ use Rattle.terms.specs.declared.Refusal.TheVariants.{NoStream, Full as IsFull}
 use Rattle.ordering_plan.specs.State.{State as Stream, place_of as held_place}
 use Rattle.ordering_plan.specs.Arrange.{plan_of as item_plan, arranged}
 use Rattle.ordering_plan.specs.declared.Arranged.{Arranged}
-use Rattle.ordering_plan.specs.declared.Arranged.TheVariants.{Out as GoesOut, Held as IsHeld, Old as IsOld, Refused as IsRefused}
+use Rattle.ordering_plan.specs.declared.Arranged.TheVariants.{Out as GoesOut, Held as IsHeld, Old as IsOld}
 use Rattle.ordering_plan.specs.declared.OrderingStream.{OrderingStream}
 use Rattle.ordering_laws.specs.Held.{held_at, Good}
 use Rattle.ordering_laws.proofs.Found.{same?}
@@ -30,7 +31,6 @@ use Rattle.arranging_laws.proofs.Stored.{Fitting, state_good}
 use Rattle.ends.specs.State.{State}
 use Rattle.receiving_plan.specs.Plan.{ordered_as, plan_of, item_of}
 use Rattle.receiving.specs.Receive.{Step as Received, packet_as, received_of}
-use Rattle.receiving_plan.specs.declared.Plan.TheVariants.{Refuse}
 use Rattle.link_incoming.specs.Calls.{receive_of}
 use Rattle.link_laws.proofs.Kept.{stays_open}
 use Rattle.link_laws.proofs.Receive.{one_of_four}
@@ -39,14 +39,15 @@ use Rattle.agreement.specs.Agreement.{Lent}
 use Rattle.agreement.proofs.Streams.{seen, own_seen, ids_of}
 use Rattle.agreement.proofs.Wire.{Saying}
 use Rattle.agreement.proofs.Promises.{Same, Landed, goes-out, is_held, is-old, is-refused}
-use Rattle.agreement.proofs.Views.{Ok, views}
+use Rattle.agreement.proofs.Views.{Fine, views}
+use Rattle.terms.specs.declared.Refusal.{Refusal}
 
 -- what an answer of a stream says of the distance
-abbrev pub Planned : Arranged → ℕ → Type 0
-Planned GoesOut d = d ≡ 0
-Planned (IsHeld k) d = (1 ≤ d) × (d ≤ 32768)
-Planned IsOld d = 32769 ≤ d
-Planned (IsRefused why) d = (1 ≤ d) × (d ≤ 32768) × (why ≡ IsFull)
+abbrev pub Planned : Result Arranged Refusal → ℕ → Type 0
+Planned (Ok GoesOut) d = d ≡ 0
+Planned (Ok (IsHeld k)) d = (1 ≤ d) × (d ≤ 32768)
+Planned (Ok IsOld) d = 32769 ≤ d
+Planned (Err why) d = (1 ≤ d) × (d ≤ 32768) × (why ≡ IsFull)
 
 pub planned : (s : OrderingStream) (index : List ℕ) (i : ℕ) → Planned (item_plan s index i) (back i s.expected_index.0)
 unfolding item_plan
@@ -59,7 +60,7 @@ planned s index i =
     let near = ltb-false 32768 (back i s.expected_index.0) b in
     case (eqb (held_place s index i) 64) (λ c. rw (a, b, c) (omega (arith, one), near, refl)) (λ c. rw (a, b, c) (omega (arith, one), near))))
 
-module _ (l : Pair) (r : State) (ok : Ok l.receiving r) where
+module _ (l : Pair) (r : State) (ok : Fine l.receiving r) where
   abbrev z : Sizes
   z = l.receiving
 
@@ -113,11 +114,11 @@ module _ (l : Pair) (r : State) (ok : Ok l.receiving r) where
     read_is = rw (stays_open z r ok.range ok.kept output lent, t.reads, le-ltb f (length d - t.at) short, t.kind, t.payload)
 
     -- 7, or what module 4 says
-    pub fifth-is : J ≡ 4 → X ≡ packet_as (Refuse NoStream) z t.h b r output
+    pub fifth-is : J ≡ 4 → X ≡ packet_as (Err NoStream) z t.h b r output
     unfolding plan_of
     fifth-is e = read_is ∙ rw (t.ordered, t.stream_is, plan_none r.ordered.counters r.ordered.index id t.h.arranging.index.0 J refl e)
 
-    abbrev A : Arranged
+    abbrev A : Result Arranged Refusal
     A = item_plan S.stream S.index i
 
     pub item_is : (J ≡ 4 → ⊥) → X ≡ packet_as (ordered_as A (record { at = J; plan = A })) z t.h b r output
@@ -132,41 +133,41 @@ module _ (l : Pair) (r : State) (ok : Ok l.receiving r) where
       good : Good f S
       good = state_good f r.ordered ok.kept.ordered.whole J (in_four ne)
 
-      whole_is : (a : Arranged) → A ≡ a → X ≡ packet_as (ordered_as a (record { at = J; plan = a })) z t.h b r output
-      whole_is a e = item_is ne ∙ ap (λ (y : Arranged). packet_as (ordered_as y (record { at = J; plan = y })) z t.h b r output) e
+      whole_is : (a : Result Arranged Refusal) → A ≡ a → X ≡ packet_as (ordered_as a (record { at = J; plan = a })) z t.h b r output
+      whole_is a e = item_is ne ∙ ap (λ (y : Result Arranged Refusal). packet_as (ordered_as y (record { at = J; plan = y })) z t.h b r output) e
 
-      stored-fits : (a : Arranged) → A ≡ a → Fitting f (arranged a f i b S)
+      stored-fits : (a : Result Arranged Refusal) → A ≡ a → Fitting f (arranged a f i b S)
       stored-fits a e = arranged_fits f r.ordered ok.kept.ordered.whole J (in_four ne) i b fits a e
 
-      says : (a : Arranged) → A ≡ a → Planned a (back i S.stream.expected_index.0)
-      says a e = subst (λ (y : Arranged). Planned y (back i S.stream.expected_index.0)) e (planned S.stream S.index i)
+      says : (a : Result Arranged Refusal) → A ≡ a → Planned a (back i S.stream.expected_index.0)
+      says a e = subst (λ (y : Result Arranged Refusal). Planned y (back i S.stream.expected_index.0)) e (planned S.stream S.index i)
 
-      landed : (a : Arranged) → A ≡ a → Landed l (views l) r i b X
-      landed GoesOut e =
-          let x = whole_is GoesOut e in
-          let o : X.end.ordered ≡ stored_at f r.ordered J id (arranged GoesOut f i b S) = ap (λ (y : Received). y.end.ordered) x ∙ rw t.stream_is in
-          let fit = stored-fits GoesOut e in
+      landed : (a : Result Arranged Refusal) → A ≡ a → Landed l (views l) r i b X
+      landed (Ok GoesOut) e =
+          let x = whole_is (Ok GoesOut) e in
+          let o : X.end.ordered ≡ stored_at f r.ordered J id (arranged (Ok GoesOut) f i b S) = ap (λ (y : Received). y.end.ordered) x ∙ rw t.stream_is in
+          let fit = stored-fits (Ok GoesOut) e in
           goes-out (item_of t.h (length b)) (ap (λ (y : Received). y.answer) x)
           (ap (λ (y : Received). take (length b) y.output) x ∙ take_at b (drop (length b) output) (length b) refl)
-          (says GoesOut e)
+          (says (Ok GoesOut) e)
           (now-expects (in_four ne) X.end _ fit o)
           (λ y h. now-holds (in_four ne) X.end _ fit o y ∙ held_is_a_map.out_elsewhere f S i b y)
-      landed (IsHeld k) e =
-          let x = whole_is (IsHeld k) e in
-          let o : X.end.ordered ≡ stored_at f r.ordered J id (arranged (IsHeld k) f i b S) = ap (λ (y : Received). y.end.ordered) x ∙ rw (t.stream_is, t.index_is) in
-          let fit = stored-fits (IsHeld k) e in
-          is_held (ap (λ (y : Received). y.answer) x) (says (IsHeld k) e).0 (says (IsHeld k) e).1
+      landed (Ok (IsHeld k)) e =
+          let x = whole_is (Ok (IsHeld k)) e in
+          let o : X.end.ordered ≡ stored_at f r.ordered J id (arranged (Ok (IsHeld k)) f i b S) = ap (λ (y : Received). y.end.ordered) x ∙ rw (t.stream_is, t.index_is) in
+          let fit = stored-fits (Ok (IsHeld k)) e in
+          is_held (ap (λ (y : Received). y.answer) x) (says (Ok (IsHeld k)) e).0 (says (Ok (IsHeld k)) e).1
           (now-expects (in_four ne) X.end _ fit o)
           (now-holds (in_four ne) X.end _ fit o i ∙ held_is_a_map.put_here f S i k b good small fits e)
           (λ y h ny. now-holds (in_four ne) X.end _ fit o y ∙ held_is_a_map.put_elsewhere f S i k b y good small fits e h ny)
-      landed IsOld e =
-          let x = whole_is IsOld e in
-          let o : X.end.ordered ≡ stored_at f r.ordered J id (arranged IsOld f i b S) = ap (λ (y : Received). y.end.ordered) x ∙ rw t.stream_is in
-          let fit = stored-fits IsOld e in
-          is-old (ap (λ (y : Received). y.answer) x) (says IsOld e)
+      landed (Ok IsOld) e =
+          let x = whole_is (Ok IsOld) e in
+          let o : X.end.ordered ≡ stored_at f r.ordered J id (arranged (Ok IsOld) f i b S) = ap (λ (y : Received). y.end.ordered) x ∙ rw t.stream_is in
+          let fit = stored-fits (Ok IsOld) e in
+          is-old (ap (λ (y : Received). y.answer) x) (says (Ok IsOld) e)
           (record { expects = now-expects (in_four ne) X.end _ fit o; keeps = λ y h. now-holds (in_four ne) X.end _ fit o y })
-      landed (IsRefused why) e =
-          let x = whole_is (IsRefused why) e in
+      landed (Err why) e =
+          let x = whole_is (Err why) e in
           is-refused why (ap (λ (y : Received). y.answer) x) (same_ordered X.end (ap (λ (y : Received). y.end.ordered) x))
 
     pub lands : i < 65536 → Landed l (views l) r i b X

@@ -5,13 +5,14 @@ use mathlib.Core.Logic.{inl, inr, ⊎_elim}
 use mathlib.Core.List.{List}
 use native.Mathlib.Omega.{arith}
 use lib.ListN.{length, take}
+use Rattle.std.specs.Prelude.{Ok, Result, Err}
 use Rattle.laws.proofs.Cases.{lt_or_le}
 use Rattle.serial.specs.Order.{back}
 use Rattle.terms.specs.declared.Refusal.TheVariants.{Full as IsFull}
 use Rattle.ordering_plan.specs.State.{State as Stream, fresh}
 use Rattle.ordering_plan.specs.Arrange.{plan_of as item_plan}
 use Rattle.ordering_plan.specs.declared.Arranged.{Arranged}
-use Rattle.ordering_plan.specs.declared.Arranged.TheVariants.{Out as GoesOut, Held as IsHeld, Old as IsOld, Refused as IsRefused}
+use Rattle.ordering_plan.specs.declared.Arranged.TheVariants.{Out as GoesOut, Held as IsHeld, Old as IsOld}
 use Rattle.ordering_plan.specs.declared.OrderingStream.{OrderingStream}
 use Rattle.ordering_laws.specs.Full.{others}
 use Rattle.ordering_laws.proofs.Found.{same?}
@@ -29,8 +30,9 @@ use Rattle.agreement.specs.World.{Pair, World}
 use Rattle.agreement.specs.Agreement.{Lent, Fifth, Full, Refusals, stream_of}
 use Rattle.agreement.proofs.Streams.{made_at_lem, made_least, ids_of}
 use Rattle.agreement.proofs.Wire.{Saying}
-use Rattle.agreement.proofs.Views.{Ok}
+use Rattle.agreement.proofs.Views.{Fine}
 use Rattle.agreement.proofs.Receiver.{Planned, planned, fifth-is, item_is, in_four}
+use Rattle.terms.specs.declared.Refusal.{Refusal}
 
 -- a fifth stream is one whose place would be 4
 module _ (n : StreamIds) (w : WholeIds n) (id : ℕ) where
@@ -47,7 +49,7 @@ module _ (n : StreamIds) (w : WholeIds n) (id : ℕ) where
       ⊎_elim (λ (g : place_of n id < 4). absurd (h.another (place_of n id) g (made_at_lem n w id (omega arith)))) (λ (g : 4 ≤ place_of n id). omega arith)
       (lt_or_le (place_of n id) 4)
 
-module _ (l : Pair) (w : World) (ok : Ok l.receiving w.receiver) (d output : List ℕ) (p : ℕ) (b : List ℕ) (lent : Lent l.receiving output)
+module _ (l : Pair) (w : World) (ok : Fine l.receiving w.receiver) (d output : List ℕ) (p : ℕ) (b : List ℕ) (lent : Lent l.receiving output)
     (t : Saying l.receiving.version l.stream d (p % 65536) b) (fits : length b ≤ l.receiving.fragment_size) where
   abbrev f : ℕ
   f = l.receiving.fragment_size
@@ -73,7 +75,7 @@ module _ (l : Pair) (w : World) (ok : Ok l.receiving w.receiver) (d output : Lis
       let z : ◌≡◌ {A = ℕ} 0 64 = rw none_there at o in
       omega arith
 
-  exact : (J ≡ 4 → ⊥) → (item_plan S.stream S.index (p % 65536) ≡ IsRefused IsFull → Full S (p % 65536)) × (Full S (p % 65536) → item_plan S.stream S.index (p % 65536) ≡ IsRefused IsFull)
+  exact : (J ≡ 4 → ⊥) → (item_plan S.stream S.index (p % 65536) ≡ Err IsFull → Full S (p % 65536)) × (Full S (p % 65536) → item_plan S.stream S.index (p % 65536) ≡ Err IsFull)
   exact ne =
       let room = (state_good f w.receiver.ordered ok.kept.ordered.whole J (one-of-four' ne)).room in
       let e = full_is_exact S.stream S.index (p % 65536) room.few room.indices in
@@ -82,32 +84,32 @@ module _ (l : Pair) (w : World) (ok : Ok l.receiving w.receiver) (d output : Lis
       one-of-four' : (J ≡ 4 → ⊥) → J < 4
       one-of-four' ne = in_four l w.receiver ok d output (p % 65536) b lent t fits ne
 
-  by_plan : (J ≡ 4 → ⊥) → (a : Arranged) → item_plan S.stream S.index (p % 65536) ≡ a
+  by_plan : (J ≡ 4 → ⊥) → (a : Result Arranged Refusal) → item_plan S.stream S.index (p % 65536) ≡ a
       → Refusals l w p (number_of_answer (packet_as (ordered_as a (record { at = J; plan = a })) l.receiving t.h b w.receiver output).answer)
-  by_plan ne GoesOut e =
+  by_plan ne (Ok GoesOut) e =
       record {
         only = inl refl;
-        six = (λ q. absurd (omega arith), λ h. absurd (let y : GoesOut ≡ IsRefused IsFull = sym e ∙ (exact ne).1 h in let z : ◌≡◌ {A = ℕ} 0 1 = cc in omega arith));
+        six = (λ q. absurd (omega arith), λ h. absurd (let y : (Ok GoesOut) ≡ Err IsFull = sym e ∙ (exact ne).1 h in let z : ◌≡◌ {A = ℕ} 0 1 = cc in omega arith));
         seven = (λ q. absurd (omega arith), λ h. absurd (ne (place_fifth w.receiver.ordered.counters.known ids l.stream h)));
       }
-  by_plan ne (IsHeld k) e =
+  by_plan ne (Ok (IsHeld k)) e =
       record {
         only = inl refl;
-        six = (λ q. absurd (omega arith), λ h. absurd (let y : IsHeld k ≡ IsRefused IsFull = sym e ∙ (exact ne).1 h in let z : ◌≡◌ {A = ℕ} 0 1 = cc in omega arith));
+        six = (λ q. absurd (omega arith), λ h. absurd (let y : Ok (IsHeld k) ≡ Err IsFull = sym e ∙ (exact ne).1 h in let z : ◌≡◌ {A = ℕ} 0 1 = cc in omega arith));
         seven = (λ q. absurd (omega arith), λ h. absurd (ne (place_fifth w.receiver.ordered.counters.known ids l.stream h)));
       }
-  by_plan ne IsOld e =
+  by_plan ne (Ok IsOld) e =
       record {
         only = inl refl;
-        six = (λ q. absurd (omega arith), λ h. absurd (let y : IsOld ≡ IsRefused IsFull = sym e ∙ (exact ne).1 h in let z : ◌≡◌ {A = ℕ} 0 1 = cc in omega arith));
+        six = (λ q. absurd (omega arith), λ h. absurd (let y : (Ok IsOld) ≡ Err IsFull = sym e ∙ (exact ne).1 h in let z : ◌≡◌ {A = ℕ} 0 1 = cc in omega arith));
         seven = (λ q. absurd (omega arith), λ h. absurd (ne (place_fifth w.receiver.ordered.counters.known ids l.stream h)));
       }
-  by_plan ne (IsRefused why) e =
-      let is : why ≡ IsFull = (subst (λ (y : Arranged). Planned y (back (p % 65536) S.stream.expected_index.0)) e (planned S.stream S.index (p % 65536))).2 in
+  by_plan ne (Err why) e =
+      let is : why ≡ IsFull = (subst (λ (y : Result Arranged Refusal). Planned y (back (p % 65536) S.stream.expected_index.0)) e (planned S.stream S.index (p % 65536))).2 in
       rw is
       (record {
         only = inr (inl refl);
-        six = (λ q. (exact ne).0 (e ∙ ap IsRefused is), λ h. refl);
+        six = (λ q. (exact ne).0 (e ∙ ap Err is), λ h. refl);
         seven = (λ q. absurd (omega arith), λ h. absurd (ne (place_fifth w.receiver.ordered.counters.known ids l.stream h)));
       })
 

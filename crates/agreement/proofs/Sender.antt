@@ -2,12 +2,13 @@
 use Prim.Native.Nat.{ℕ, ◌*◌, ◌≤◌, ◌<◌}
 use mathlib.Core.Path.{◌≡◌, refl, sym, ap, ◌∙◌, subst}
 use mathlib.Core.Bool.{false, cond}
-use mathlib.Core.Option.{some}
 use mathlib.Core.List.{List}
 use native.Mathlib.Omega.{arith}
 use lib.Dec.{eqb}
 use lib.ListN.{length, take, drop, set}
 use lib.Seq.{take_at, paste}
+use Rattle.std.specs.Prelude.{Ok, Result, Err, Some}
+use Rattle.laws.proofs.Cases.{no_answer, same_answer}
 use Rattle.serial.specs.Order.{next}
 use Rattle.serial.specs.declared.ItemId.{ItemId}
 use Rattle.terms.specs.declared.Sizes.{Sizes}
@@ -24,7 +25,7 @@ use Rattle.packet_table.specs.Table.{ordering_number}
 use Rattle.packet_table.specs.declared.DeliveryGuarantee.{DeliveryGuarantee}
 use Rattle.packet_table.specs.declared.DeliveryGuarantee.TheVariants.{Unreliable, Reliable}
 use Rattle.packet_table.specs.declared.OrderingGuarantee.{OrderingGuarantee}
-use Rattle.packet_table.specs.declared.OrderingGuarantee.TheVariants.{None, Sequenced, Ordered}
+use Rattle.packet_table.specs.declared.OrderingGuarantee.TheVariants.{None as NoOrder, Sequenced, Ordered}
 use Rattle.ordering_plan.specs.State.{State as Stream}
 use Rattle.ordering_plan.specs.declared.OrderingStream.{OrderingStream}
 use Rattle.arranging_plan.specs.Ids.{place_of}
@@ -37,10 +38,7 @@ use Rattle.datagrams.specs.declared.Item.{Item}
 use Rattle.datagrams.specs.declared.Identifier.{Identifier}
 use Rattle.datagrams.specs.declared.Identifier.TheVariants.{Next, Again}
 use Rattle.sending.specs.declared.Written.{Written}
-use Rattle.sending.specs.declared.Answer.TheVariants.{Datagram, Refused as NotSent}
 use Rattle.sending.specs.declared.plan.Sending.{Sending}
-use Rattle.sending.specs.declared.plan.Plan.{Plan}
-use Rattle.sending.specs.declared.plan.Plan.TheVariants.{Refuse, Send}
 use Rattle.link_laws.proofs.Lists.{few_pieces}
 use Rattle.link_laws.proofs.Receive.{ordered_item, sequenced_item, one_of_four}
 use Rattle.link_laws.proofs.Send.{Narrow, kept_transmitted}
@@ -48,7 +46,7 @@ use Rattle.agreement.specs.World.{Pair, Alike}
 use Rattle.agreement.proofs.Promises.{Went, Passed, Loose}
 use Rattle.agreement.proofs.Streams.{seen, ids_of}
 use Rattle.agreement.proofs.Wire.{Saying, Beyond}
-use Rattle.agreement.proofs.Views.{Ok, views}
+use Rattle.agreement.proofs.Views.{Fine, views}
 use Rattle.agreement.proofs.Allowed.{Allowed, allowed}
 use Rattle.agreement.proofs.Numbered.{After, next_seen, again_seen, others_seen}
 use Rattle.agreement.proofs.Flying.{sent-view}
@@ -56,20 +54,14 @@ use Rattle.agreement.proofs.ByteLists.{taken, whole}
 use Rattle.agreement.proofs.Written as written
 
 ordering_byte : (o : OrderingGuarantee) → ordering_number o < 256
-ordering_byte None = omega arith
+ordering_byte NoOrder = omega arith
 ordering_byte Sequenced = omega arith
 ordering_byte Ordered = omega arith
 
 ordered_two : (o : OrderingGuarantee) → ordering_number o ≡ 2 → o ≡ Ordered
-ordered_two None e = absurd (omega arith)
+ordered_two NoOrder e = absurd (omega arith)
 ordered_two Sequenced e = absurd (omega arith)
 ordered_two Ordered e = refl
-
-refused_datagram : {why : Refusal} {d : Written} → NotSent why ≡ Datagram d → ⊥
-refused_datagram e = let z : ◌≡◌ {A = ℕ} 0 1 = cc in omega arith
-
-datagram_inj : {a b : Written} → Datagram a ≡ Datagram b → a ≡ b
-datagram_inj e = cc
 
 -- the identifier that an item has
 abbrev id_of : State → Item → Sending → ItemId
@@ -84,7 +76,7 @@ again_id s i q item o t = rw (o, t) refl
 
 -- the packets in flight, with a reliable one
 reliable_flight : (z : Sizes) (s : State) (i : Item) (q : Sending) (payload output : List ℕ) (place : ℕ) → q.at ≡ place → i.delivery ≡ Reliable
-    → flight_of z (transmitted_as (Send q) z s i payload output).end.acks
+    → flight_of z (transmitted_as (Ok q) z s i payload output).end.acks
     ≡ record {
       number = table_of z (set s.acks.number place (word_of s.acks.counters.sequence_number.0 (length payload)));
       records = set s.acks.records place (packed (record_of i (id_of s i q)));
@@ -92,7 +84,7 @@ reliable_flight : (z : Sizes) (s : State) (i : Item) (q : Sending) (payload outp
     }
 reliable_flight z s i q payload output place e r = rw (e, r) refl
 
-module _ (l : Pair) (alike : Alike l) (s : State) (ok : Ok l.sending s) (i : Item) (payload output : List ℕ) (byte : i.stream < 256) (narrow : Narrow i.identifier) where
+module _ (l : Pair) (alike : Alike l) (s : State) (ok : Fine l.sending s) (i : Item) (payload output : List ℕ) (byte : i.stream < 256) (narrow : Narrow i.identifier) where
   abbrev z : Sizes
   z = l.sending
 
@@ -106,7 +98,7 @@ module _ (l : Pair) (alike : Alike l) (s : State) (ok : Ok l.sending s) (i : Ite
   local = s.acks.counters.sequence_number.0
 
   abbrev Y : Sending → Sent
-  Y q = transmitted_as (Send q) l.sending s i payload output
+  Y q = transmitted_as (Ok q) l.sending s i payload output
 
   -- what was written, no rung of the plan refused
   pub record Gone : Type 0 where
@@ -114,20 +106,20 @@ module _ (l : Pair) (alike : Alike l) (s : State) (ok : Ok l.sending s) (i : Ite
     pub is : X ≡ Y q
     pub free : Allowed l.sending s i (length payload) q
 
-  pub gone : (d : Written) → X.answer ≡ Datagram d → Gone
+  pub gone : (d : Written) → X.answer ≡ Ok d → Gone
   unfolding transmitted_of
   gone d = go (plan_of z local s.ordered.counters s.sequenced (table_of z s.acks.number) i (length payload)) refl
     where
-      go : (p : Plan) → plan_of z local s.ordered.counters s.sequenced (table_of z s.acks.number) i (length payload) ≡ p → X.answer ≡ Datagram d → Gone
-      go (Refuse why) e = rw e (λ q. absurd (refused_datagram q))
-      go (Send q) e = λ a. record { q = q; is = rw e refl; free = allowed z s i (length payload) q e }
+      go : (p : Result Sending Refusal) → plan_of z local s.ordered.counters s.sequenced (table_of z s.acks.number) i (length payload) ≡ p → X.answer ≡ Ok d → Gone
+      go (Err why) e = rw e (λ q. no_answer q)
+      go (Ok q) e = λ a. record { q = q; is = rw e refl; free = allowed z s i (length payload) q e }
 
   module _ (g : Gone) where
     abbrev ID : ItemId
     ID = id_of s i g.q
 
     word-by : (o : OrderingGuarantee) → (identified_by o i g.q.stream s.ordered.counters s.sequenced).item.0 < 65536
-    word-by None = omega arith
+    word-by NoOrder = omega arith
     word-by Sequenced = go i.identifier narrow
       where
         go : (t : Identifier) → Narrow t → (sequenced_as t s.sequenced g.q.stream i.stream).item.0 < 65536
@@ -148,19 +140,19 @@ module _ (l : Pair) (alike : Alike l) (s : State) (ok : Ok l.sending s) (i : Ite
     abbrev D : List ℕ
     D = datagram_in z (counters_of s) s.acks.received i g.q payload
 
-    module _ (d : Written) (e : X.answer ≡ Datagram d) (pb : Bytes payload) where
-      told : answer_for z (counters_of s) s.acks.received i g.q payload ≡ Datagram d
+    module _ (d : Written) (e : X.answer ≡ Ok d) (pb : Bytes payload) where
+      told : answer_for z (counters_of s) s.acks.received i g.q payload ≡ Ok d
       told = sym (ap (λ (x : Sent). x.answer) g.is) ∙ e
 
       number_is : d.number.0 ≡ local
-      number_is = sym (ap (λ (x : Written). x.number.0) (datagram_inj told))
+      number_is = sym (ap (λ (x : Written). x.number.0) (same_answer told))
 
       wire-is : take d.length X.output ≡ D
       wire-is =
-          ap (λ (x : Written). take x.length X.output) (sym (datagram_inj told)) ∙ ap (λ (x : Sent). take (length D) x.output) g.is
+          ap (λ (x : Written). take x.length X.output) (sym (same_answer told)) ∙ ap (λ (x : Sent). take (length D) x.output) g.is
           ∙ take_at D (drop (length D) output) (length D) refl
 
-      ok-after : Ok z X.end
+      ok-after : Fine z X.end
       ok-after = record { range = ok.range; kept = kept_transmitted z s i payload output ok.range ok.kept byte narrow }
 
       few : length payload ≤ z.max_fragments * z.fragment_size
@@ -168,12 +160,12 @@ module _ (l : Pair) (alike : Alike l) (s : State) (ok : Ok l.sending s) (i : Ite
 
       -- a reliable packet is in flight under its number
       stored : i.delivery ≡ Reliable → (m : ℕ) → m < 65536
-          → view (slot_of z) (flight_of z X.end.acks) m ≡ cond (eqb m d.number.0) (some (record { packet = record_of i ID; payload = payload })) (view (slot_of z) (flight_of z s.acks) m)
+          → view (slot_of z) (flight_of z X.end.acks) m ≡ cond (eqb m d.number.0) (Some (record { packet = record_of i ID; payload = payload })) (view (slot_of z) (flight_of z s.acks) m)
       stored r m h =
           ap (λ (x : Sent). view (slot_of z) (flight_of z x.end.acks) m) g.is
           ∙ ap (λ (x : Flight). view (slot_of z) x m) (reliable_flight z s i g.q payload output (place_in_flight local (numbers_in (table_of z s.acks.number))) at_is r)
           ∙ sent-view z s.acks ok.range ok.kept.acks (record_of i ID) payload typed roomy few m h
-          ∙ ap (λ (x : ℕ). cond (eqb m x) (some (record { packet = record_of i ID; payload = payload })) (view (slot_of z) (flight_of z s.acks) m)) (sym number_is)
+          ∙ ap (λ (x : ℕ). cond (eqb m x) (Some (record { packet = record_of i ID; payload = payload })) (view (slot_of z) (flight_of z s.acks) m)) (sym number_is)
         where
           at_is : g.q.at ≡ place_in_flight local (numbers_in (table_of z s.acks.number))
           at_is = g.free.at_is ∙ ap (λ (x : DeliveryGuarantee). flight_place x local (table_of z s.acks.number)) r
@@ -219,7 +211,7 @@ module _ (l : Pair) (alike : Alike l) (s : State) (ok : Ok l.sending s) (i : Ite
       up-other ne = go i.ordering refl
         where
           go : (o : OrderingGuarantee) → i.ordering ≡ o → up X.end ≡ up s
-          go None o = ap (λ (x : Sent). (seen f x.end.ordered l.stream).stream.next_item.0) g.is ∙ rw o refl
+          go NoOrder o = ap (λ (x : Sent). (seen f x.end.ordered l.stream).stream.next_item.0) g.is ∙ rw o refl
           go Sequenced o = ap (λ (x : Sent). (seen f x.end.ordered l.stream).stream.next_item.0) g.is ∙ rw o refl
           go Ordered o =
               ap (λ (x : States). (seen f x l.stream).stream.next_item.0) (after_is o)

@@ -3,13 +3,13 @@
 use Prim.Native.Nat.{ℕ, ◌+◌, ◌*◌, ◌≤◌, ◌<◌}
 use mathlib.Core.Path.{◌≡◌, sym, ap, ◌∙◌, subst}
 use mathlib.Core.Logic.{⊎_elim}
-use mathlib.Core.Option.{none}
 use mathlib.Core.List.{List}
 use native.Mathlib.Nat.{eq-or-lt_of_le}
 use native.Mathlib.Omega.{arith}
 use borrow.Author.Tests.{lt-ltb, le-ltb, eq-eqb}
 use lib.ListN.{length, get_or, take, set, length-set}
 use lib.Seq.{length-take-le, get_or-take, get_or-set_same, get_or-set_other}
+use Rattle.std.specs.Prelude.{None}
 use Rattle.laws.proofs.Cases.{lt_or_le}
 use Rattle.keys.proofs.First.{first_at, first_min}
 use Rattle.ordering_plan.specs.State.{State as Stream, fresh, place_of as held_place}
@@ -138,7 +138,7 @@ pub record Equal (f : ℕ) (a b : Stream) : Type 0 where
 pub equal_same : (f : ℕ) (a b : Stream) → b ≡ a → Equal f a b
 equal_same f a b e = record { stream_is = ap (λ (x : Stream). x.stream) e; keeps = λ y. ap (λ (x : Stream). held_at f x y) e }
 
-pub none_held : (f : ℕ) (t : Stream) → t.stream ≡ fresh → (y : ℕ) → held_at f t y ≡ none
+pub none_held : (f : ℕ) (t : Stream) → t.stream ≡ fresh → (y : ℕ) → held_at f t y ≡ None
 unfolding held_at
 none_held f t e y =
     let none_there : t.stream.held ≡ 0 = ap (λ (x : OrderingStream). x.held) e in

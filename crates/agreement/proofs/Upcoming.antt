@@ -7,26 +7,21 @@ use native.Mathlib.Omega.{arith}
 use borrow.Author.Tests.{ltb-false}
 use lib.Dec.{ltb, eqb}
 use lib.ListN.{length, drop, length-drop}
+use Rattle.std.specs.Prelude.{Result, Ok, Err, Option, Some, ⊤, None}
 use Rattle.laws.proofs.Cases.{case, lt_or_le}
 use Rattle.terms.specs.declared.Sizes.{Sizes}
-use Rattle.terms.specs.declared.Gate.{Gate}
-use Rattle.terms.specs.declared.Gate.TheVariants.{Open, Shut}
 use Rattle.packet.specs.Read.{read_of}
 use Rattle.packet_table.specs.declared.Headers.{Headers}
 use Rattle.packet_table.specs.declared.PacketType.{PacketType}
 use Rattle.packet_table.specs.declared.PacketType.TheVariants.{Packet, Fragment, Heartbeat}
 use Rattle.packet_table.specs.declared.OrderingGuarantee.{OrderingGuarantee}
-use Rattle.packet_table.specs.declared.OrderingGuarantee.TheVariants.{None, Sequenced as InSequence, Ordered as InOrder}
-use Rattle.packet.specs.declared.Read.{Read}
-use Rattle.packet.specs.declared.Read.TheVariants.{Found, Refused as Unread}
+use Rattle.packet_table.specs.declared.OrderingGuarantee.TheVariants.{None as NoOrder, Sequenced as InSequence, Ordered as InOrder}
 use Rattle.ordering_plan.specs.State.{State as Stream}
 use Rattle.ordering.specs.Take.{next_of, taken}
 use Rattle.ordering_plan.specs.Arrange.{plan_of as item_plan}
 use Rattle.ordering_plan.specs.declared.OrderingStream.{OrderingStream}
 use Rattle.ordering_plan.specs.declared.Arranged.{Arranged}
-use Rattle.ordering_plan.specs.declared.Arranged.TheVariants.{Out as GoesOut, Held as IsHeld, Old as IsOld, Refused as IsRefused}
-use Rattle.ordering.specs.declared.Taken.{Taken}
-use Rattle.ordering.specs.declared.Taken.TheVariants.{Item, Nothing, Refused as NotTaken}
+use Rattle.ordering_plan.specs.declared.Arranged.TheVariants.{Out as GoesOut, Held as IsHeld, Old as IsOld}
 use Rattle.ordering_laws.proofs.Found.{same?}
 use Rattle.arranging_plan.specs.Ids.{place_of}
 use Rattle.arranging_plan.specs.Ordered.{States, part, stream_at, state_at, stored_at, plan_on, next_on, taken_on}
@@ -42,6 +37,8 @@ use Rattle.link_incoming.specs.Calls.{receive_of, take_of}
 use Rattle.link_laws.proofs.Kept.{Kept}
 use Rattle.link_laws.proofs.Receive.{one_of_four}
 use Rattle.agreement.proofs.Streams.{seen, own_seen, other_seen, ids_of}
+use Rattle.terms.specs.declared.Refusal.{Refusal}
+use Rattle.packet.specs.declared.Found.{Found}
 
 module _ (z : Sizes) (id : ℕ) (s : State) (k : Kept z s) where
   abbrev f : ℕ
@@ -69,18 +66,18 @@ module _ (z : Sizes) (id : ℕ) (s : State) (k : Kept z s) where
     abbrev I : ℕ
     I = h.arranging.stream
 
-    arranged-up : (free : place_of s.ordered.counters.known I < 4) → (a : Arranged)
+    arranged-up : (free : place_of s.ordered.counters.known I < 4) → (a : Result Arranged Refusal)
         → item_plan (stream_at s.ordered.counters (place_of s.ordered.counters.known I)) (part s.ordered.index (place_of s.ordered.counters.known I * 64) 64) h.arranging.index.0 ≡ a
         → Up (packet_as (ordered_as a (record { at = place_of s.ordered.counters.known I; plan = a })) z h payload s output).end.ordered
-    arranged-up free GoesOut e = stored_up I free _ (arranged_fits f s.ordered k.ordered.whole _ free h.arranging.index.0 payload short GoesOut e) refl
-    arranged-up free (IsHeld j) e = stored_up I free _ (arranged_fits f s.ordered k.ordered.whole _ free h.arranging.index.0 payload short (IsHeld j) e) refl
-    arranged-up free IsOld e = stored_up I free _ (arranged_fits f s.ordered k.ordered.whole _ free h.arranging.index.0 payload short IsOld e) refl
-    arranged-up free (IsRefused why) e = refl
+    arranged-up free (Ok GoesOut) e = stored_up I free _ (arranged_fits f s.ordered k.ordered.whole _ free h.arranging.index.0 payload short (Ok GoesOut) e) refl
+    arranged-up free (Ok (IsHeld j)) e = stored_up I free _ (arranged_fits f s.ordered k.ordered.whole _ free h.arranging.index.0 payload short (Ok (IsHeld j)) e) refl
+    arranged-up free (Ok IsOld) e = stored_up I free _ (arranged_fits f s.ordered k.ordered.whole _ free h.arranging.index.0 payload short (Ok IsOld) e) refl
+    arranged-up free (Err why) e = refl
 
     by_ordering : (o : OrderingGuarantee)
         → Up (packet_as (plan_by o h.arranging s.ordered.counters s.ordered.index s.sequenced) z h payload s output).end.ordered
     unfolding sequenced_plan plan_on
-    by_ordering None = refl
+    by_ordering NoOrder = refl
     by_ordering InSequence = case (eqb (place_of s.sequenced.known I) 4) (λ q. rw q refl) (λ q. rw q refl)
     by_ordering InOrder =
         case (eqb (place_of s.ordered.counters.known I) 4) (λ q. rw q refl)
@@ -96,25 +93,25 @@ module _ (z : Sizes) (id : ℕ) (s : State) (k : Kept z s) where
     by_type_lem Fragment h payload short = refl
     by_type_lem Heartbeat h payload short = refl
 
-    by_read : (t : Read) → Up (read_as t z s d output).end.ordered
-    by_read (Unread why) = refl
-    by_read (Found h at) =
-        case (ltb z.fragment_size (length d - at)) (λ q. rw q refl)
-        (λ q. rw q (by_type_lem h.standard.packet_type h (drop at d) (rw (length-drop at d) (ltb-false z.fragment_size (length d - at) q))))
+    by_read : (t : Result Found Refusal) → Up (read_as t z s d output).end.ordered
+    by_read (Err why) = refl
+    by_read (Ok r) =
+        case (ltb z.fragment_size (length d - r.at)) (λ q. rw q refl)
+        (λ q. rw q (by_type_lem r.headers.standard.packet_type r.headers (drop r.at d) (rw (length-drop r.at d) (ltb-false z.fragment_size (length d - r.at) q))))
 
     pub datagram-up : Up (receive_of z s d output).end.ordered
     unfolding receive_of received_of
     datagram-up = go (gate_of z s output) refl
       where
-        go : (g : Gate) → gate_of z s output ≡ g → Up (receive_of z s d output).end.ordered
-        go (Shut why) e = rw e refl
-        go Open e = rw e (by_read (read_of z.version d))
+        go : (g : Result ⊤ Refusal) → gate_of z s output ≡ g → Up (receive_of z s d output).end.ordered
+        go (Err why) e = rw e refl
+        go (Ok tt) e = rw e (by_read (read_of z.version d))
 
   module _ (stream : ℕ) (output : List ℕ) where
-    left_up : (t : Taken) (x : Stream) → (taken t f x).stream.next_item.0 ≡ x.stream.next_item.0
-    left_up (Item n) x = refl
-    left_up Nothing x = refl
-    left_up (NotTaken why) x = refl
+    left_up : (t : Result (Option ℕ) Refusal) (x : Stream) → (taken t f x).stream.next_item.0 ≡ x.stream.next_item.0
+    left_up (Ok (Some n)) x = refl
+    left_up (Ok None) x = refl
+    left_up (Err why) x = refl
 
     taken-up : Up (taken_on (next_on z.fragment_size s.ordered stream) z.fragment_size stream s.ordered)
     taken-up =
@@ -131,6 +128,6 @@ module _ (z : Sizes) (id : ℕ) (s : State) (k : Kept z s) where
     unfolding take_of
     take-up = go (gate_of z s output) refl
       where
-        go : (g : Gate) → gate_of z s output ≡ g → Up (take_of z s stream output).end.ordered
-        go (Shut why) e = rw e refl
-        go Open e = rw e taken-up
+        go : (g : Result ⊤ Refusal) → gate_of z s output ≡ g → Up (take_of z s stream output).end.ordered
+        go (Err why) e = rw e refl
+        go (Ok tt) e = rw e taken-up

@@ -15,15 +15,15 @@ use Rattle.agreement.proofs.Streams.{seen}
 use Rattle.agreement.proofs.Wire.{Saying, Beyond}
 
 -- what a fresh end comes to
-pub record Ok (z : Sizes) (s : State) : Type 0 where
+pub record Fine (z : Sizes) (s : State) : Type 0 where
   pub range : in_range z ≡ true
   pub kept : Kept z s
 
 abbrev pub views : Pair → Views
 views l =
     record {
-      ok_sender = λ s. Ok l.sending s;
-      ok_receiver = λ r. Ok l.receiving r;
+      ok_sender = λ s. Fine l.sending s;
+      ok_receiver = λ r. Fine l.receiving r;
       upcoming = λ s. (seen l.sending.fragment_size s.ordered l.stream).stream.next_item.0;
       flight = λ s n. view (slot_of l.sending) (flight_of l.sending s.acks) n;
       Says = λ d i b. Saying l.receiving.version l.stream d i b;

@@ -3,17 +3,17 @@ use Prim.Native.Nat.{ℕ}
 use mathlib.Core.Path.{◌≡◌}
 use mathlib.Core.List.{List}
 use lib.ListN.{drop}
-use Rattle.packet.specs.Read.{read_of}
+use Rattle.std.specs.Prelude.{Ok}
+use Rattle.packet.specs.Read.{read_of, found}
 use Rattle.packet_table.specs.declared.Headers.{Headers}
 use Rattle.packet_table.specs.declared.PacketType.TheVariants.{Packet}
 use Rattle.packet_table.specs.declared.OrderingGuarantee.TheVariants.{Ordered}
-use Rattle.packet.specs.declared.Read.TheVariants.{Found}
 
 -- it reads as an item of the stream, with this index and this payload; v is V
 pub record Saying (v id : ℕ) (d : List ℕ) (i : ℕ) (b : List ℕ) : Type 0 where
   pub h : Headers
   pub at : ℕ
-  pub reads : read_of v d ≡ Found h at
+  pub reads : read_of v d ≡ found h at
   pub kind : h.standard.packet_type ≡ Packet
   pub ordered : h.standard.ordering ≡ Ordered
   pub stream_is : h.arranging.stream ≡ id
@@ -23,5 +23,5 @@ pub record Saying (v id : ℕ) (d : List ℕ) (i : ℕ) (b : List ℕ) : Type 0 
 -- it does not read as an item of the stream
 abbrev pub Beyond : ℕ → ℕ → List ℕ → Type 0
 Beyond v id d =
-    (h : Headers) (at : ℕ) → read_of v d ≡ Found h at → h.standard.packet_type ≡ Packet → h.standard.ordering ≡ Ordered
+    (h : Headers) (at : ℕ) → read_of v d ≡ found h at → h.standard.packet_type ≡ Packet → h.standard.ordering ≡ Ordered
     → h.arranging.stream ≡ id → ⊥

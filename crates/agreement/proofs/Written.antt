@@ -9,7 +9,9 @@ use borrow.Author.Tests.{ltb-false, le-ltb}
 use lib.Dec.{ltb}
 use lib.ListN.{length, take, drop}
 use lib.Seq.{take_all}
-use Rattle.laws.proofs.Cases.{case, both, neither}
+use Rattle.std.specs.Prelude.{Ok}
+use Rattle.packet.specs.declared.Found.{Found}
+use Rattle.laws.proofs.Cases.{case, both, neither, same_answer}
 use Rattle.serial.specs.declared.ItemId.{ItemId}
 use Rattle.terms.specs.Sizes.{in_range}
 use Rattle.terms.specs.declared.Sizes.{Sizes}
@@ -19,12 +21,11 @@ use Rattle.received.proofs.Facts.{facts as field-facts}
 use Rattle.acks.specs.declared.Acknowledgment.{Acknowledgment}
 use Rattle.splitter.specs.Split.{needed}
 use Rattle.packet_table.specs.Table.{rule, listed, follows, has_acked}
-use Rattle.packet.specs.Read.{no_acked, read_of}
+use Rattle.packet.specs.Read.{no_acked, read_of, found}
 use Rattle.packet_table.specs.Table.{misfit}
 use Rattle.packet_laws.specs.Inverse.{Fits, carried, start}
 use Rattle.packet_table.specs.declared.AckedPacketHeader.{AckedPacketHeader}
 use Rattle.packet_table.specs.declared.Headers.{Headers}
-use Rattle.packet.specs.declared.Read.TheVariants.{Found}
 use Rattle.packet_table.specs.declared.PacketType.TheVariants.{Packet, Fragment}
 use Rattle.packet_table.specs.declared.DeliveryGuarantee.{DeliveryGuarantee}
 use Rattle.packet_table.specs.declared.DeliveryGuarantee.TheVariants.{Unreliable, Reliable}
@@ -47,8 +48,8 @@ split_none Reliable Sequenced e = both {b = false} e refl
 split_none Reliable Ordered e = both {b = false} e refl
 split_none Unreliable o e = both {b = false} e refl
 
-found_inj : {h g : Headers} {a b : ℕ} → Found h a ≡ Found g b → h ≡ g
-found_inj e = cc
+found_inj : {h g : Headers} {a b : ℕ} → found h a ≡ found g b → h ≡ g
+found_inj e = ap (λ (x : Found). x.headers) (same_answer e)
 
 module _ (z : Sizes) (range : in_range z ≡ true) (word : z.version < 65536) (i : Item) (id : ItemId) (c : Acknowledgment) (received payload : List ℕ)
     (listed-is : is_listed i ≡ true) (short : is_long z.fragment_size i (length payload) ≡ false) (few : needed (length payload) z.fragment_size ≤ z.max_fragments)
@@ -114,7 +115,7 @@ module _ (z : Sizes) (range : in_range z ≡ true) (word : z.version < 65536) (i
       (λ e. let q = split_none i.delivery i.ordering (split_is e) in rw (e, q.0, q.1) (fit_fragment (length (take f payload))))
       (λ e. rw e (fit_packet i.delivery i.ordering (length (take f payload)) listed-is))
 
-  reads : (read_of z.version D ≡ Found (carried H) (start H)) × (drop (start H) D ≡ take f payload)
+  reads : (read_of z.version D ≡ found (carried H) (start H)) × (drop (start H) D ≡ take f payload)
   reads = layout_reads z.version H (take f payload) fits fit
 
   -- an ordered item

@@ -1,6 +1,5 @@
 -- Demand 3, "Two ends agree": what may happen, and what then holds.
-use Rattle.std.specs.Prelude.{ℕ, ◌+◌, ◌*◌, ◌%◌, ◌≤◌, ◌<◌, ◌≡◌, ◌⊎◌, ◌↔◌, Bool, List, [], ◌∷◌, T, length, get_or, take, replicate}
-use Rattle.std.proofs.Math.Option.{Option, none, some}
+use Rattle.std.specs.Prelude.{ℕ, ◌+◌, ◌*◌, ◌%◌, ◌≤◌, ◌<◌, ◌≡◌, ◌⊎◌, ◌↔◌, Bool, List, [], ◌∷◌, T, length, get_or, take, replicate, Option, Some, None}
 use Rattle.serial.specs.Order.{back}
 use Rattle.terms.specs.declared.Sizes.{Sizes}
 use Rattle.acknowledgment_laws.specs.Runs.{Typed}
@@ -26,13 +25,13 @@ Lent z output = 16 * z.fragment_size + 17 ≤ length output
 
 -- "Let each copy of item p arrive while the count e already handed out satisfies e - 32,767 <= p <= e + 32,768."
 abbrev pub Window : ℕ → Option ℕ → Type 0
-Window e none = Unit {0}
-Window e (some p) = (e ≤ p + 32767) × (p ≤ e + 32768)
+Window e None = Unit {0}
+Window e (Some p) = (e ≤ p + 32767) × (p ≤ e + 32768)
 
 -- "After each arrival the receiver takes items until none comes": a copy of an item comes after a take that found none
 abbrev pub Waited : Bool → Option ℕ → Type 0
-Waited quiet none = Unit {0}
-Waited quiet (some p) = T quiet
+Waited quiet None = Unit {0}
+Waited quiet (Some p) = T quiet
 
 -- other calls at the receiver: no datagram but those of the line, and no take on the stream
 abbrev pub Beside : Sizes → ℕ → Call → Type 0
@@ -112,7 +111,7 @@ pub record Agreed (l : Pair) (w : World) : Type 0 where
   -- "whenever a take has found none .., the items handed out are always the first k sent, each once, in order"
   pub whole : T w.quiet → w.handed ≡ take k w.sent
   -- whenever a copy comes
-  pub refusals : (j p : ℕ) (output : List ℕ) → Lent l.receiving output → j < length w.line → (get_or w.line j no_copy).item ≡ some p
+  pub refusals : (j p : ℕ) (output : List ℕ) → Lent l.receiving output → j < length w.line → (get_or w.line j no_copy).item ≡ Some p
       → Refusals l w p (number_of_answer (receive_of l.receiving w.receiver (get_or w.line j no_copy).datagram output).answer)
   pub ends : (output : List ℕ) → Lent l.receiving output → Ends l w output
 

@@ -1,7 +1,6 @@
 -- Demand 3: "Take two fresh ends, one ordered stream between them and a line that loses, repeats, delays and reorders copies but
 -- alters and invents none." The two ends are the states of `link`; the rest of a world is the history that the demand speaks of.
-use Rattle.std.specs.Prelude.{ℕ, ◌<◌, ◌≡◌, Bool, true, cond, List, [], ◌∷◌, eqb}
-use Rattle.std.proofs.Math.Option.{Option, none}
+use Rattle.std.specs.Prelude.{ℕ, ◌<◌, ◌≡◌, Bool, true, cond, List, [], ◌∷◌, eqb, Option, None}
 use Rattle.terms.specs.declared.Sizes.{Sizes}
 use Rattle.flight.specs.declared.SentPacket.{SentPacket}
 use Rattle.ends.specs.State.{State}
@@ -58,12 +57,12 @@ start s r =
 
 -- for which item the packet was sent that last took a number
 unfoldable pub latest : ℕ → List Mark → Option ℕ
-latest n [] = none
+latest n [] = None
 latest n (m ∷ ms) = cond (eqb m.number n) m.item (latest n ms)
 
 -- what is given back or written where nothing is
 abbrev pub no_back : Back
-no_back = record { item = none; sent = record { ordering = 0; stream = 0; item = record { 0 = 0 } }; payload = [] }
+no_back = record { item = None; sent = record { ordering = 0; stream = 0; item = record { 0 = 0 } }; payload = [] }
 
 abbrev pub no_copy : Copy
-no_copy = record { item = none; datagram = [] }
+no_copy = record { item = None; datagram = [] }

@@ -2,8 +2,8 @@
 use Prim.Native.Nat.{ℕ}
 use mathlib.Core.Path.{◌≡◌, refl, ap}
 use mathlib.Core.List.{List}
-use mathlib.Core.Option.{Option, some, some-injective}
 use lib.ListN.{get_or}
+use Rattle.std.specs.Prelude.{Option, Some}
 use Rattle.receiving_plan.specs.Plan.{number_of_answer}
 use Rattle.link_incoming.specs.Calls.{receive_of}
 use Rattle.ends.specs.State.{fresh_end}
@@ -62,7 +62,7 @@ use Rattle.link.specs.Calls.{new_of as u122, drop_of as u129, report_of as u130}
 use Rattle.link_laws.specs.Calls.{number_of_call as u131, called as u132, after as u133}
 use Rattle.agreement_setting.specs.Setting.{sizes, pair, lent, out, payloads}
 use Rattle.agreement_filling.specs.Filling.{filling, filled, emptying, emptied, Fills}
-use Rattle.agreement_setting.proofs.May.{traced, traced_ok}
+use Rattle.agreement_setting.proofs.May.{traced, traced_ok, same_some}
 
 fresh_is : New sizes (lent fresh_end) out
 unfolding u0 u1 u2 u3 u4 u5 u6 u7 u8 u9 u10 u11 u12 u13 u14 u15 u16 u17 u18 u19 u20 u21 u22 u23 u24 u25 u26 u27 u28 u29 u30 u31 u32 u33 u34 u35 u36 u37 u38 u39 u40 u41 u42 u43 u44 u45 u46 u47 u48 u49 u50 u51 u52 u53 u54 u55 u56 u57 u58 u59 u60 u61 u62 u63 u64 u65 u66 u67 u68 u69 u70 u71 u72 u73 u74 u75 u76 u77 u78 u79 u80 u81 u82 u83 u84 u85 u86 u87 u88 u89 u90 u91 u92 u93 u94 u95 u96 u97 u98 u99 u100 u101 u102 u103 u104 u105 u106 u107 u108 u109 u110 u111 u112 u113 u114 u115 u116 u117 u118 u119 u120 u121 u122 u123 u124 u125 u126 u127 u128 u129 u130 u131 u132 u133
@@ -73,12 +73,12 @@ abbrev told : World → ℕ
 told w = number_of_answer (receive_of sizes w.receiver (get_or w.line 0 no_copy).datagram out).answer
 
 abbrev ending : World → World → Option (ℕ × List (List ℕ))
-ending full w = some (told full, w.handed)
+ending full w = Some (told full, w.handed)
 
 abbrev going : World → Option (ℕ × List (List ℕ))
 going full = traced pair full emptying (ending full)
 
-computed : traced pair (start (lent fresh_end) (lent fresh_end)) filling going ≡ some (6, payloads 66 0)
+computed : traced pair (start (lent fresh_end) (lent fresh_end)) filling going ≡ Some (6, payloads 66 0)
 unfolding filling emptying latest u0 u1 u2 u3 u4 u5 u6 u7 u8 u9 u10 u11 u12 u13 u14 u15 u16 u17 u18 u19 u20 u21 u22 u23 u24 u25 u26 u27 u28 u29 u30 u31 u32 u33 u34 u35 u36 u37 u38 u39 u40 u41 u42 u43 u44 u45 u46 u47 u48 u49 u50 u51 u52 u53 u54 u55 u56 u57 u58 u59 u60 u61 u62 u63 u64 u65 u66 u67 u68 u69 u70 u71 u72 u73 u74 u75 u76 u77 u78 u79 u80 u81 u82 u83 u84 u85 u86 u87 u88 u89 u90 u91 u92 u93 u94 u95 u96 u97 u98 u99 u100 u101 u102 u103 u104 u105 u106 u107 u108 u109 u110 u111 u112 u113 u114 u115 u116 u117 u118 u119 u120 u121 u122 u123 u124 u125 u126 u127 u128 u129 u130 u131 u132 u133
 computed = refl
 
@@ -87,7 +87,7 @@ unfolding filled emptied
 fills =
     let full = traced_ok pair (start (lent fresh_end) (lent fresh_end)) filling going (6, payloads 66 0) computed in
     let empty = traced_ok pair filled emptying (ending filled) (6, payloads 66 0) full.1 in
-    let result = some-injective (told filled, emptied.handed) (6, payloads 66 0) empty.1 in
+    let result = same_some empty.1 in
     record {
       fresh_ends = fresh_is;
       filling_may = full.0;

@@ -2,7 +2,7 @@
 use Prim.Native.Nat.{ℕ}
 use mathlib.Core.Path.{◌≡◌, refl}
 use mathlib.Core.List.{List}
-use mathlib.Core.Option.{Option, some, some-injective}
+use Rattle.std.specs.Prelude.{Option, Some}
 use Rattle.ends.specs.State.{fresh_end}
 use Rattle.ends.specs.declared.End.{End}
 use Rattle.link_laws.specs.Never.{New}
@@ -61,7 +61,7 @@ use Rattle.link.specs.Calls.{new_of as u122, drop_of as u129, report_of as u130}
 use Rattle.link_laws.specs.Calls.{number_of_call as u131, called as u132, after as u133}
 use Rattle.agreement_setting.specs.Setting.{sizes, pair, lent, out, payloads}
 use Rattle.agreement_runs.specs.Runs.{losing, lost_from, told_by, resending, resent_from, later, Runs}
-use Rattle.agreement_setting.proofs.May.{traced, traced_ok}
+use Rattle.agreement_setting.proofs.May.{traced, traced_ok, same_some}
 
 fresh_is : New sizes (lent fresh_end) out
 unfolding u0 u1 u2 u3 u4 u5 u6 u7 u8 u9 u10 u11 u12 u13 u14 u15 u16 u17 u18 u19 u20 u21 u22 u23 u24 u25 u26 u27 u28 u29 u30 u31 u32 u33 u34 u35 u36 u37 u38 u39 u40 u41 u42 u43 u44 u45 u46 u47 u48 u49 u50 u51 u52 u53 u54 u55 u56 u57 u58 u59 u60 u61 u62 u63 u64 u65 u66 u67 u68 u69 u70 u71 u72 u73 u74 u75 u76 u77 u78 u79 u80 u81 u82 u83 u84 u85 u86 u87 u88 u89 u90 u91 u92 u93 u94 u95 u96 u97 u98 u99 u100 u101 u102 u103 u104 u105 u106 u107 u108 u109 u110 u111 u112 u113 u114 u115 u116 u117 u118 u119 u120 u121 u122 u123 u124 u125 u126 u127 u128 u129 u130 u131 u132 u133
@@ -69,27 +69,27 @@ fresh_is = record { sizes = refl; storage = refl; counters = refl; none_received
 
 -- what was handed out in the end
 abbrev ending : World → Option (List (List ℕ))
-ending w = some w.handed
+ending w = Some w.handed
 
 abbrev going : World → Option (List (List ℕ))
 going w = traced pair w (resending w) ending
 
-resent_is : traced pair (start (lent fresh_end) (lent fresh_end)) losing going ≡ some (payloads 40 0)
+resent_is : traced pair (start (lent fresh_end) (lent fresh_end)) losing going ≡ Some (payloads 40 0)
 unfolding losing told_by resending latest u0 u1 u2 u3 u4 u5 u6 u7 u8 u9 u10 u11 u12 u13 u14 u15 u16 u17 u18 u19 u20 u21 u22 u23 u24 u25 u26 u27 u28 u29 u30 u31 u32 u33 u34 u35 u36 u37 u38 u39 u40 u41 u42 u43 u44 u45 u46 u47 u48 u49 u50 u51 u52 u53 u54 u55 u56 u57 u58 u59 u60 u61 u62 u63 u64 u65 u66 u67 u68 u69 u70 u71 u72 u73 u74 u75 u76 u77 u78 u79 u80 u81 u82 u83 u84 u85 u86 u87 u88 u89 u90 u91 u92 u93 u94 u95 u96 u97 u98 u99 u100 u101 u102 u103 u104 u105 u106 u107 u108 u109 u110 u111 u112 u113 u114 u115 u116 u117 u118 u119 u120 u121 u122 u123 u124 u125 u126 u127 u128 u129 u130 u131 u132 u133
 resent_is = refl
 
-crossed_is : traced pair (start (lent later) (lent later)) losing going ≡ some (payloads 40 0)
+crossed_is : traced pair (start (lent later) (lent later)) losing going ≡ Some (payloads 40 0)
 unfolding losing told_by resending latest u0 u1 u2 u3 u4 u5 u6 u7 u8 u9 u10 u11 u12 u13 u14 u15 u16 u17 u18 u19 u20 u21 u22 u23 u24 u25 u26 u27 u28 u29 u30 u31 u32 u33 u34 u35 u36 u37 u38 u39 u40 u41 u42 u43 u44 u45 u46 u47 u48 u49 u50 u51 u52 u53 u54 u55 u56 u57 u58 u59 u60 u61 u62 u63 u64 u65 u66 u67 u68 u69 u70 u71 u72 u73 u74 u75 u76 u77 u78 u79 u80 u81 u82 u83 u84 u85 u86 u87 u88 u89 u90 u91 u92 u93 u94 u95 u96 u97 u98 u99 u100 u101 u102 u103 u104 u105 u106 u107 u108 u109 u110 u111 u112 u113 u114 u115 u116 u117 u118 u119 u120 u121 u122 u123 u124 u125 u126 u127 u128 u129 u130 u131 u132 u133
 crossed_is = refl
 
 -- what one such computation says of a run from two like ends
-told : (end : End) → traced pair (start (lent end) (lent end)) losing going ≡ some (payloads 40 0)
+told : (end : End) → traced pair (start (lent end) (lent end)) losing going ≡ Some (payloads 40 0)
     → Mays pair (start (lent end) (lent end)) losing × Mays pair (lost_from end) (resending (lost_from end)) × ((resent_from end).handed ≡ payloads 40 0)
 unfolding lost_from resent_from
 told end h =
     let lost = traced_ok pair (start (lent end) (lent end)) losing going (payloads 40 0) h in
     let again = traced_ok pair (lost_from end) (resending (lost_from end)) ending (payloads 40 0) lost.1 in
-    (lost.0, again.0, some-injective (resent_from end).handed (payloads 40 0) again.1)
+    (lost.0, again.0, same_some again.1)
 
 pub runs : Runs
 runs =

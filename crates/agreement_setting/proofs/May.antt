@@ -3,11 +3,12 @@ use Prim.Native.Nat.{ℕ, zero, suc, ◌+◌, ◌*◌}
 use mathlib.Core.Path.{◌≡◌, refl}
 use mathlib.Core.Bool.{Bool, true, false, cond, ◌&&◌}
 use mathlib.Core.List.{List, [], ◌∷◌}
-use mathlib.Core.Option.{Option, none, some, none-ne-some}
+use native.Mathlib.Omega.{arith}
 use native.Mathlib.Nat.{le_of_suc-le-suc, not-suc-le-zero}
 use borrow.Author.Tests.{leb-true, ltb-true}
 use lib.Dec.{leb, ltb}
 use lib.ListN.{length, get_or}
+use Rattle.std.specs.Prelude.{Option, Some, None}
 use Rattle.laws.proofs.Cases.{both, each}
 use Rattle.terms.specs.declared.Sizes.{Sizes}
 use Rattle.packet_table.specs.Numbers.{Bytes}
@@ -32,22 +33,22 @@ bytes_ok (x ∷ xs) e zero h = ltb-true x 256 (each (ltb x 256) (bytes_b xs) e).
 bytes_ok (x ∷ xs) e (suc i) h = bytes_ok xs (each (ltb x 256) (bytes_b xs) e).1 i (le_of_suc-le-suc h)
 
 abbrev window_b : ℕ → Option ℕ → Bool
-window_b e none = true
-window_b e (some p) = leb e (p + 32767) && leb p (e + 32768)
+window_b e None = true
+window_b e (Some p) = leb e (p + 32767) && leb p (e + 32768)
 
 window_ok : (e : ℕ) (o : Option ℕ) → window_b e o ≡ true → Window e o
-window_ok e none h = tt
-window_ok e (some p) h =
+window_ok e None h = tt
+window_ok e (Some p) h =
     let q = each (leb e (p + 32767)) (leb p (e + 32768)) h in (leb-true e (p + 32767) q.0, leb-true p (e + 32768) q.1)
 
 abbrev waited_b : Bool → Option ℕ → Bool
-waited_b quiet none = true
-waited_b quiet (some p) = quiet
+waited_b quiet None = true
+waited_b quiet (Some p) = quiet
 
 waited_ok : (b : Bool) (o : Option ℕ) → waited_b b o ≡ true → Waited b o
-waited_ok b none h = tt
-waited_ok true (some p) h = tt
-waited_ok false (some p) h = both {b = false} h refl
+waited_ok b None h = tt
+waited_ok true (Some p) h = tt
+waited_ok false (Some p) h = both {b = false} h refl
 
 -- of the other calls at the receiver, sends
 abbrev beside_b : Sizes → Call → Bool
@@ -104,14 +105,20 @@ may_ok l w (others call) h = beside_ok l.receiving l.stream call h
 -- a run and what is asked of its end, in one computation: none where something may not happen
 abbrev pub traced : {A : Type 0} → Pair → World → List Event → (World → Option A) → Option A
 traced l w [] ask = ask w
-traced l w (v ∷ vs) ask = cond (may_b l w v) (traced l (step l w v) vs ask) none
+traced l w (v ∷ vs) ask = cond (may_b l w v) (traced l (step l w v) vs ask) None
 
-here : {A : Type 0} (b : Bool) (o : Option A) (a : A) → cond b o none ≡ some a → (b ≡ true) × (o ≡ some a)
+none_some : {A G : Type 0} {a : A} → ◌≡◌ {A = Option A} None (Some a) → G
+none_some h = absurd (let z : ◌≡◌ {A = ℕ} 0 1 = cc in omega arith)
+
+pub same_some : {A : Type 0} {a b : A} → ◌≡◌ {A = Option A} (Some a) (Some b) → a ≡ b
+same_some h = cc
+
+here : {A : Type 0} (b : Bool) (o : Option A) (a : A) → cond b o None ≡ Some a → (b ≡ true) × (o ≡ Some a)
 here true o a h = (refl, h)
-here false o a h = absurd (none-ne-some a h)
+here false o a h = none_some h
 
 pub traced_ok : {A : Type 0} (l : Pair) (w : World) (es : List Event) (ask : World → Option A) (a : A)
-    → traced l w es ask ≡ some a → Mays l w es × (ask (run l w es) ≡ some a)
+    → traced l w es ask ≡ Some a → Mays l w es × (ask (run l w es) ≡ Some a)
 traced_ok l w [] ask a h = (tt, h)
 traced_ok l w (v ∷ vs) ask a h =
     let q = here (may_b l w v) _ a h in

@@ -7,18 +7,18 @@ use native.Mathlib.Nat.{add-sub_cancel_left}
 use borrow.Author.Tests.{lt-ltb, le-ltb, ne_eqb}
 use lib.ListN.{length, get_or, take, drop, set, take-append-drop}
 use lib.Seq.{set-get_or, get_or-take, length-take-le}
+use Rattle.std.specs.Prelude.{Result, Ok, Err, Option, Some, None}
 use Rattle.keys.proofs.First.{first_at}
 use Rattle.ordering_plan.specs.State.{State, Leaves, lending, fresh}
 use Rattle.ordering_plan.specs.declared.OrderingStream.{OrderingStream}
 use Rattle.ordering.specs.Take.{next_of, taken, TakesNext}
 use Rattle.ordering.specs.declared.AfterTake.{AfterTake}
-use Rattle.ordering.specs.declared.Taken.{Taken}
-use Rattle.ordering.specs.declared.Taken.TheVariants.{Item, Nothing, Refused}
 use Rattle.arranging_plan.specs.Ids.{place_of, made_at}
 use Rattle.arranging_plan.specs.Ordered.{part, put, stream_at, States, state_at, stored_at, LeavesAll, next_on, taken_on}
 use Rattle.arranging_plan.specs.declared.ids.StreamIds.{StreamIds}
 use Rattle.arranging_plan.specs.declared.ordered.OrderingStreams.{OrderingStreams}
 use Rattle.arranging.specs.Steps.{TakesOn}
+use Rattle.terms.specs.declared.Refusal.{Refusal}
 
 pub put_same : (d : List ℕ) (a n : ℕ) → put d a n (part d a n) ≡ d
 put_same d a n = ap (λ (r : List ℕ). take a d ++ r) (take-append-drop n (drop a d)) ∙ take-append-drop a d
@@ -77,10 +77,10 @@ module _ (f : ℕ) (s : States) (id : ℕ) (few : s.counters.known.made ≤ leng
   next_here = rw (lt-ltb J s.counters.known.made here)
 
   -- what a take leaves is put back, whatever it found
-  pub taken_back : (t : Taken) → taken_on t f id s ≡ stored_at f s J id (taken t f (state_at f s J))
-  taken_back (Item n) = refl
-  taken_back Nothing = sym stored_same
-  taken_back (Refused why) = sym stored_same
+  pub taken_back : (t : Result (Option ℕ) Refusal) → taken_on t f id s ≡ stored_at f s J id (taken t f (state_at f s J))
+  taken_back (Ok (Some n)) = refl
+  taken_back (Ok None) = sym stored_same
+  taken_back (Err why) = sym stored_same
 
   -- a take on what the stream is lent is one on the stream
   pub takes_here : {j : ℕ} {stream : OrderingStream} {after : AfterTake} {counters : OrderingStreams} {output index lengths bytes out : List ℕ}
@@ -95,6 +95,6 @@ module _ (f : ℕ) (s : States) (id : ℕ) (few : s.counters.known.made ≤ leng
         output_is = rw (next_here, ← p, ← lent_is f s j e) g.output_is;
       }
 
-pub next_away : (f : ℕ) (s : States) (id : ℕ) → s.counters.known.made ≤ place_of s.counters.known id → next_on f s id ≡ Nothing
+pub next_away : (f : ℕ) (s : States) (id : ℕ) → s.counters.known.made ≤ place_of s.counters.known id → next_on f s id ≡ Ok None
 unfolding next_on
 next_away f s id h = rw (le-ltb (place_of s.counters.known id) s.counters.known.made h)

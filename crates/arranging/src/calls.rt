@@ -3,20 +3,20 @@
 ghost use Rattle.std.specs.Prelude.{◌≡◌};
 ghost use Rattle.arranging_plan.specs.Ordered.{lending_all};
 ghost use Rattle.arranging.specs.Calls.{Arranges, Takes};
-ghost use Rattle.arranging.specs.Sequence.{told_of, sequenced};
+ghost use Rattle.arranging.specs.Sequence.{sequenced};
 
 use crate::ordered::{AfterTake, OrderingStreams};
 use crate::sequenced::SequencingStreams;
 use crate::{ordered, sequenced};
 use arranging_plan::gate;
-use ordering::{Arranged, Taken};
+use ordering::Arranged;
 use sequencing::Sequenced;
 use serial::ItemId;
-use terms::{Gate, Refusal, Sizes};
+use terms::{Refusal, Sizes};
 
 #[derive(Clone, Copy)]
 pub struct AfterArrange {
-    pub answer: Arranged,
+    pub answer: Result<Arranged, Refusal>,
     pub streams: OrderingStreams,
 }
 
@@ -34,31 +34,39 @@ pub fn arrange(
 ) -> AfterArrange
     ensures { Arranges sizes (lending_all streams index.old lengths.old bytes.old) id item.0 payload.now output.old result index.new lengths.new bytes.new output.new }
 {
-    let gate = gate::check(sizes, streams, index, lengths, bytes, output);
-    if let Gate::Shut(why) = gate {
+    if let Err(why) = gate::check(sizes, streams, index, lengths, bytes, output) {
         return AfterArrange {
-            answer: Arranged::Refused(why),
+            answer: Err(why),
             streams,
         };
     }
     let f = sizes.fragment_size;
     if f < payload.len() {
         return AfterArrange {
-            answer: Arranged::Refused(Refusal::TooLong),
+            answer: Err(Refusal::TooLong),
             streams,
         };
     }
     let planned = arranging_plan::ordered::judge(streams, index, id, item);
     let j = planned.at;
     let answer = planned.plan;
-    if gate::refused(answer) {
+    let Ok(plan) = answer else {
         return AfterArrange { answer, streams };
-    }
-    ordering::doing::hand_out(answer, payload, output);
+    };
+    ordering::doing::hand_out(Ok(plan), payload, output);
     AfterArrange {
         answer,
         streams: ordered::perform(
-            streams, f, index, lengths, bytes, j, answer, id, item, payload,
+            streams,
+            f,
+            index,
+            lengths,
+            bytes,
+            j,
+            Ok(plan),
+            id,
+            item,
+            payload,
         ),
     }
 }
@@ -75,10 +83,9 @@ pub fn take(
 ) -> AfterTake
     ensures { Takes sizes (lending_all streams index.old lengths.old bytes.old) id output.old result index.new lengths.new bytes.new output.new }
 {
-    let gate = gate::check(sizes, streams, index, lengths, bytes, output);
-    if let Gate::Shut(why) = gate {
+    if let Err(why) = gate::check(sizes, streams, index, lengths, bytes, output) {
         return AfterTake {
-            answer: Taken::Refused(why),
+            answer: Err(why),
             streams,
         };
     }
@@ -93,17 +100,9 @@ pub fn take(
     )
 }
 
-// What becomes of an item that has come on a sequenced stream: one that goes out is the caller's own payload.
-#[derive(Clone, Copy)]
-pub enum SequenceAnswer {
-    Out,
-    Dropped,
-    Refused(Refusal),
-}
-
 #[derive(Clone, Copy)]
 pub struct AfterSequence {
-    pub answer: SequenceAnswer,
+    pub answer: Result<Sequenced, Refusal>,
     pub streams: SequencingStreams,
 }
 
@@ -112,35 +111,22 @@ pub struct AfterSequence {
 pub fn sequence(streams: SequencingStreams, id: u8, item: ItemId) -> AfterSequence
     ensures { result ≡ sequenced streams id item }
 {
-    let known = streams.known;
-    if !known.sound() {
+    if !streams.known.sound() {
         return AfterSequence {
-            answer: SequenceAnswer::Refused(Refusal::BadState),
+            answer: Err(Refusal::BadState),
             streams,
         };
     }
-    let j = known.place(id);
+    let j = streams.known.place(id);
     if j == 4 {
         return AfterSequence {
-            answer: SequenceAnswer::Refused(Refusal::NoStream),
+            answer: Err(Refusal::NoStream),
             streams,
         };
     }
     let after = sequenced::arrange(streams, j, id, item);
-    let found = after.answer;
-    let answer = told(found);
-    let rest = after.streams;
     AfterSequence {
-        answer,
-        streams: rest,
-    }
-}
-
-fn told(answer: Sequenced) -> SequenceAnswer
-    ensures { result ≡ told_of answer }
-{
-    match answer {
-        Sequenced::Out => SequenceAnswer::Out,
-        Sequenced::Dropped => SequenceAnswer::Dropped,
+        answer: Ok(after.answer),
+        streams: after.streams,
     }
 }

@@ -1,17 +1,17 @@
 // What is done with the ordered streams of an end. `arranging_plan` judges it first, and has the type of the streams.
-ghost use Rattle.std.specs.Prelude.{◌≡◌, ◌*◌, ◌≤◌, ◌<◌, length};
+ghost use Rattle.std.specs.Prelude.{◌≡◌, ◌*◌, ◌≤◌, ◌<◌, length, Ok};
 ghost use Rattle.arranging_plan.specs.Ordered.{stream_at, lending_all, state_at, stored_at, LeavesAll, RoomForAll, part};
 ghost use Rattle.arranging.specs.Steps.{TakesOn, numbered_at};
 ghost use Rattle.ordering_plan.specs.Arrange.{arranged, plan_of};
 
 pub use arranging_plan::ordered::OrderingStreams;
-use ordering::Taken;
 use ordering_plan::Arranged;
 use serial::ItemId;
+use terms::Refusal;
 
 #[derive(Clone, Copy)]
 pub struct AfterTake {
-    pub answer: Taken,
+    pub answer: Result<Option<usize>, Refusal>,
     pub streams: OrderingStreams,
 }
 
@@ -21,8 +21,8 @@ pub struct NewItem {
     pub streams: OrderingStreams,
 }
 
-// Carries out a plan on the stream at place j, which is made: a caller returns before this where the plan is a refusal. For the
-// crates above: requires sound streams and the item's own plan.
+// Carries out a plan on the stream at place j, which is made. For the crates above: requires sound streams and the item's own
+// plan.
 pub fn perform(
     streams: OrderingStreams,
     f: usize,
@@ -30,7 +30,7 @@ pub fn perform(
     lengths: &mut [u16],
     bytes: &mut [u8],
     j: usize,
-    plan: Arranged,
+    plan: Result<Arranged, Refusal>,
     id: u8,
     item: ItemId,
     payload: &[u8],
@@ -69,11 +69,10 @@ pub fn take_next(
     requires { RoomForAll f (lending_all streams index.old lengths.old bytes.old) × (f ≤ length output.old) }
     ensures { TakesOn f (lending_all streams index.old lengths.old bytes.old) id output.old result index.new lengths.new bytes.new output.new }
 {
-    let known = streams.known;
-    let j = known.place(id);
-    if known.made <= j {
+    let j = streams.known.place(id);
+    if streams.known.made <= j {
         return AfterTake {
-            answer: Taken::Nothing,
+            answer: Ok(None),
             streams,
         };
     }
@@ -89,11 +88,9 @@ pub fn take_next(
         &mut bytes[from..from + room],
         output,
     );
-    let answer = after.answer;
-    let rest = after.stream;
     AfterTake {
-        answer,
-        streams: streams.with(j, id, rest),
+        answer: after.answer,
+        streams: streams.with(j, id, after.stream),
     }
 }
 
@@ -102,12 +99,9 @@ pub fn number_item(streams: OrderingStreams, j: usize, id: u8) -> NewItem
     requires { (j < 4) × (streams.known.made ≤ 4) }
     ensures { result ≡ numbered_at streams j id }
 {
-    let stream = streams.at(j);
-    let new = stream.new_item_identifier();
-    let item = new.item;
-    let after = new.stream;
+    let new = streams.at(j).new_item_identifier();
     NewItem {
-        item,
-        streams: streams.with(j, id, after),
+        item: new.item,
+        streams: streams.with(j, id, new.stream),
     }
 }

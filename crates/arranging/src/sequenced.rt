@@ -1,4 +1,5 @@
-// The sequenced streams of an end.
+// The sequenced streams of an end, as the ordered ones are in `arranging_plan` and `ordered`. The two stay two structs: the
+// theorems of `arranging_laws` and `link_laws` name the fields of each, and would name a generic stream's bounds beside them.
 ghost use Rattle.std.specs.Prelude.{◌≡◌, ◌≤◌, ◌<◌};
 ghost use Rattle.arranging.specs.Sequenced.{no_streams, stream_at, stored_at, arranged_at, numbered_at};
 
@@ -35,14 +36,13 @@ impl SequencingStreams {
     }
 
     // The counters at place j. For the crates above: requires a place of the 4.
+    #[tactic(auto, unfolding(crate::specs::Sequenced::stream_at))]
     pub fn at(self, j: usize) -> SequencingStream
         requires { j < 4 }
         ensures { result ≡ stream_at self j }
     {
-        let known = self.known;
-        if j < known.made {
-            let stream = self.streams[j];
-            return stream;
+        if j < self.known.made {
+            return self.streams[j];
         }
         SequencingStream::new()
     }
@@ -53,9 +53,7 @@ impl SequencingStreams {
         ensures { result ≡ stored_at self j id stream }
     {
         let mut next = self;
-        let known = self.known;
-        let after = known.with(j, id);
-        next.known = after;
+        next.known = self.known.with(j, id);
         next.streams[j] = stream;
         next
     }
@@ -66,13 +64,10 @@ pub fn arrange(streams: SequencingStreams, j: usize, id: u8, item: ItemId) -> Af
     requires { (j < 4) × (streams.known.made ≤ 4) }
     ensures { result ≡ arranged_at streams j id item }
 {
-    let stream = streams.at(j);
-    let arranged = sequencing::arrange(stream, item);
-    let answer = arranged.answer;
-    let after = arranged.stream;
+    let after = sequencing::arrange(streams.at(j), item);
     AfterArrange {
-        answer,
-        streams: streams.with(j, id, after),
+        answer: after.answer,
+        streams: streams.with(j, id, after.stream),
     }
 }
 
@@ -81,12 +76,9 @@ pub fn number_item(streams: SequencingStreams, j: usize, id: u8) -> NewItem
     requires { (j < 4) × (streams.known.made ≤ 4) }
     ensures { result ≡ numbered_at streams j id }
 {
-    let stream = streams.at(j);
-    let new = stream.new_item_identifier();
-    let item = new.item;
-    let after = new.stream;
+    let new = streams.at(j).new_item_identifier();
     NewItem {
-        item,
-        streams: streams.with(j, id, after),
+        item: new.item,
+        streams: streams.with(j, id, new.stream),
     }
 }

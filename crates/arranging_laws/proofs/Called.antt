@@ -8,12 +8,11 @@ use native.Mathlib.Omega.{arith}
 use borrow.Author.Tests.{eqb-false}
 use lib.Dec.{eqb}
 use lib.ListN.{length}
+use Rattle.std.specs.Prelude.{Result, Ok, Err, ⊤}
 use Rattle.laws.proofs.Cases.{case, lt_or_le}
 use Rattle.terms.specs.Sizes.{in_range}
 use Rattle.terms.specs.declared.Sizes.{Sizes}
 use Rattle.serial.specs.declared.ItemId.{ItemId}
-use Rattle.terms.specs.declared.Gate.{Gate}
-use Rattle.terms.specs.declared.Gate.TheVariants.{Open, Shut}
 use Rattle.arranging_plan.specs.Ids.{place_of}
 use Rattle.arranging_plan.specs.Ordered.{States, plan_on, taken_on}
 use Rattle.arranging_plan.specs.Gate.{gate_of, is_refused}
@@ -27,9 +26,10 @@ use Rattle.arranging.proofs.Answers.{arrange_shut, arrange_long, arrange_open, t
 use Rattle.arranging_laws.specs.Sound.{Whole, WholeIds}
 use Rattle.arranging_laws.proofs.Ids.{made_whole}
 use Rattle.arranging_laws.proofs.Stays.{after_arrange_lem, after_take_lem}
+use Rattle.terms.specs.declared.Refusal.{Refusal}
 
 pub opens : (z : Sizes) (s : States) (out : List ℕ) → in_range z ≡ true → Whole z.fragment_size s → 16 * z.fragment_size + 17 ≤ length out
-    → gate_of z s out ≡ Open
+    → gate_of z s out ≡ Ok tt
 opens z s out r w h =
     let b = w.bytes in
     gate_open z s out r (long_enough z.fragment_size s.index s.lengths s.bytes out w.indices w.lengths (omega arith) h) w.state
@@ -55,18 +55,18 @@ module _ (z : Sizes) (s : States) (id : ℕ) (out : List ℕ) (w : Whole z.fragm
     pub arrange-call : Whole F (arranged_on (arrange_of z s id i p out) F id i p s)
     arrange-call = go (gate_of z s out) refl
       where
-        go : (g : Gate) → gate_of z s out ≡ g → Whole F (arranged_on (arrange_of z s id i p out) F id i p s)
-        go (Shut why) e = rw (arrange_shut z s id out why i p e) w
-        go Open e =
+        go : (g : Result ⊤ Refusal) → gate_of z s out ≡ g → Whole F (arranged_on (arrange_of z s id i p out) F id i p s)
+        go (Err why) e = rw (arrange_shut z s id out why i p e) w
+        go (Ok tt) e =
             ⊎_elim (λ (h : F < length p). rw (arrange_long z s id out i p e h) w) (λ (h : length p ≤ F). rw (arrange_open z s id out i p e h) (planned h))
             (lt_or_le F (length p))
 
   pub take_call : Whole F (taken_on (take_of z s id out) F id s)
   take_call = go (gate_of z s out) refl
     where
-      go : (g : Gate) → gate_of z s out ≡ g → Whole F (taken_on (take_of z s id out) F id s)
-      go (Shut why) e = rw (take_shut z s id out why e) w
-      go Open e = rw (take_open z s id out e) (after_take_lem F s id w)
+      go : (g : Result ⊤ Refusal) → gate_of z s out ≡ g → Whole F (taken_on (take_of z s id out) F id s)
+      go (Err why) e = rw (take_shut z s id out why e) w
+      go (Ok tt) e = rw (take_open z s id out e) (after_take_lem F s id w)
 
 pub sequence_call : (s : SequencingStreams) (id : ℕ) (i : ItemId) → WholeIds s.known → WholeIds (sequenced s id i).streams.known
 unfolding sequenced

@@ -5,14 +5,13 @@ use mathlib.Core.List.{List}
 use mathlib.Core.Logic.{⊎_elim}
 use native.Mathlib.Omega.{arith}
 use lib.ListN.{length, length-set}
+use Rattle.std.specs.Prelude.{Result, Ok, Err, Option, Some, None}
 use Rattle.laws.proofs.Cases.{lt_or_le}
 use Rattle.ordering_plan.specs.State.{State, lending, numbered}
 use Rattle.ordering_plan.specs.Arrange.{plan_of, arranged}
 use Rattle.ordering.specs.Take.{next_place, next_of, taken}
 use Rattle.ordering_plan.specs.declared.Arranged.{Arranged}
-use Rattle.ordering_plan.specs.declared.Arranged.TheVariants.{Out, Held, Old, Refused}
-use Rattle.ordering.specs.declared.Taken.{Taken}
-use Rattle.ordering.specs.declared.Taken.TheVariants.{Item, Nothing, Refused as NotTaken}
+use Rattle.ordering_plan.specs.declared.Arranged.TheVariants.{Out, Held, Old}
 use Rattle.ordering_plan.proofs.Planned.{held_place}
 use Rattle.ordering_laws.proofs.Put.{put_bytes}
 use Rattle.ordering_laws.proofs.Removed.{left_bytes}
@@ -25,6 +24,7 @@ use Rattle.arranging_plan.proofs.Parts.{block_end, part_length}
 use Rattle.arranging_plan.proofs.Sound.{all_ids, ids_four}
 use Rattle.arranging_laws.specs.Sound.{Whole, after_arrange, after_send}
 use Rattle.arranging_laws.proofs.Stored.{Fitting, stored_other, stored_whole, state_good}
+use Rattle.terms.specs.declared.Refusal.{Refusal}
 
 -- each stream of the four, made or not, is one of its own
 module _ (f : ℕ) (s : States) (w : Whole f s) (j : ℕ) (h : j < 4) where
@@ -40,32 +40,32 @@ module _ (f : ℕ) (s : States) (w : Whole f s) (j : ℕ) (h : j < 4) where
         bytes = part_length s.bytes (j * (64 * f)) (64 * f) (let q = w.bytes in omega (arith, block_end j (64 * f) h));
       }
 
-  pub arranged_fits : (i : ℕ) (p : List ℕ) → length p ≤ f → (a : Arranged) → plan_of S.stream S.index i ≡ a → Fitting f (arranged a f i p S)
-  arranged_fits i p fits Out q =
-      record { good = arranged_good f S fitting.good i p fits Out q; indices = fitting.indices; lengths = fitting.lengths; bytes = fitting.bytes }
-  arranged_fits i p fits (Held k) q =
+  pub arranged_fits : (i : ℕ) (p : List ℕ) → length p ≤ f → (a : Result Arranged Refusal) → plan_of S.stream S.index i ≡ a → Fitting f (arranged a f i p S)
+  arranged_fits i p fits (Ok Out) q =
+      record { good = arranged_good f S fitting.good i p fits (Ok Out) q; indices = fitting.indices; lengths = fitting.lengths; bytes = fitting.bytes }
+  arranged_fits i p fits (Ok (Held k)) q =
       let g = fitting.good in
       let r = held_place S.stream S.index i k g.room.few g.room.indices (sym q) in
       record {
-        good = arranged_good f S g i p fits (Held k) q;
+        good = arranged_good f S g i p fits (Ok (Held k)) q;
         indices = length-set S.index k i ∙ fitting.indices;
         lengths = length-set S.lengths k (length p) ∙ fitting.lengths;
         bytes = rw r.0 (put_bytes f S g i p (rw (sym r.0) r.1) fits ∙ fitting.bytes);
       }
-  arranged_fits i p fits Old q = fitting
-  arranged_fits i p fits (Refused why) q = fitting
+  arranged_fits i p fits (Ok Old) q = fitting
+  arranged_fits i p fits (Err why) q = fitting
 
-  pub taken_fits : (t : Taken) → next_of S ≡ t → Fitting f (taken t f S)
-  taken_fits (Item n) q =
+  pub taken_fits : (t : Result (Option ℕ) Refusal) → next_of S ≡ t → Fitting f (taken t f S)
+  taken_fits (Ok (Some n)) q =
       let g = fitting.good in
       record {
-        good = taken_good f S g (Item n) q;
+        good = taken_good f S g (Ok (Some n)) q;
         indices = length-set S.index (next_place S) _ ∙ fitting.indices;
         lengths = length-set S.lengths (next_place S) _ ∙ fitting.lengths;
         bytes = left_bytes f S g n (found_there S n q).0 ∙ fitting.bytes;
       }
-  taken_fits Nothing q = fitting
-  taken_fits (NotTaken why) q = fitting
+  taken_fits (Ok None) q = fitting
+  taken_fits (Err why) q = fitting
 
   abbrev pub Sent : State
   Sent = lending (numbered S.stream).stream S.index S.lengths S.bytes

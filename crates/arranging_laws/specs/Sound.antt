@@ -1,10 +1,9 @@
 -- From no streams on, in storage that goes from call to call unaltered, a call of the streams of a kind is never refused 13.
-use Rattle.std.specs.Prelude.{ℕ, ◌+◌, ◌*◌, ◌≤◌, ◌<◌, ◌≡◌, true, List, length}
+use Rattle.std.specs.Prelude.{ℕ, ◌+◌, ◌*◌, ◌≤◌, ◌<◌, ◌≡◌, true, List, length, Ok}
 use Rattle.terms.specs.Sizes.{in_range}
 use Rattle.terms.specs.declared.Sizes.{Sizes}
 use Rattle.serial.specs.declared.ItemId.{ItemId}
 use Rattle.ordering_plan.specs.Arrange.{plan_of, arranged}
-use Rattle.terms.specs.declared.Gate.TheVariants.{Open}
 use Rattle.arranging_plan.specs.Ids.{place_of, sound_ids}
 use Rattle.arranging_plan.specs.Ordered.{part, States, lending_all, no_streams, stream_at, state_at, stored_at, next_on, taken_on, sound_all}
 use Rattle.arranging.specs.Steps.{numbered_at}
@@ -58,7 +57,7 @@ pub record StaysSound : Type 0 where
       → Whole z.fragment_size (taken_on (take_of z s id out) z.fragment_size id s)
   -- which 13 does not refuse: with sizes in range and an output that is long enough the gate is open
   pub opens : (z : Sizes) (s : States) (out : List ℕ) → in_range z ≡ true → Whole z.fragment_size s → 16 * z.fragment_size + 17 ≤ length out
-      → gate_of z s out ≡ Open
+      → gate_of z s out ≡ Ok tt
   -- the same of sequenced streams
   pub ids_from_none : WholeIds (sequenced.no_streams).known
   pub ids_by_arrange : (s : SequencingStreams) (id : ℕ) (i : ItemId) → WholeIds s.known → place_of s.known id < 4

@@ -3,20 +3,18 @@ use Prim.Native.Nat.{ℕ, ◌+◌, ◌*◌, ◌≤◌, ◌<◌}
 use mathlib.Core.Path.{◌≡◌, refl, sym, ap, ◌∙◌}
 use mathlib.Core.List.{List}
 use mathlib.Core.Bool.{true, false, or-true}
-use mathlib.Core.Option.{none}
 use native.Mathlib.Omega.{arith}
 use lib.Dec.{ltb, eqb}
 use lib.ListN.{length}
 use borrow.Author.Tests.{lt-ltb, le-ltb, ltb-false, eqb-true, eqb-false}
-use Rattle.laws.proofs.Cases.{case, both, neither}
+use Rattle.std.specs.Prelude.{Result, Ok, Err, None}
+use Rattle.laws.proofs.Cases.{case, both, neither, no_answer}
 use Rattle.terms.specs.Sizes.{in_range}
 use Rattle.terms.specs.declared.Sizes.{Sizes}
 use Rattle.terms.specs.declared.Refusal.{Refusal}
 use Rattle.terms.specs.declared.Refusal.TheVariants.{BadSizes, BadStorage, BadState}
 use Rattle.ordering_plan.specs.Arrange.{plan_of, handed_out}
 use Rattle.ordering_plan.specs.declared.Arranged.{Arranged}
-use Rattle.ordering_plan.specs.declared.Arranged.TheVariants.{Out, Held, Old, Refused}
-use Rattle.terms.specs.declared.Gate.TheVariants.{Open, Shut}
 use Rattle.ordering_plan.proofs.Gates.{size_high}
 use Rattle.arranging_plan.specs.Ids.{place_of}
 use Rattle.arranging_plan.specs.Ordered.{part, States, RoomForAll, stream_at, plan_on, sound_all}
@@ -69,19 +67,19 @@ module _ (z : Sizes) (s : States) (o : List ℕ) where
   abbrev F : ℕ
   F = z.fragment_size
 
-  pub gate_sizes : in_range z ≡ false → gate_of z s o ≡ Shut BadSizes
+  pub gate_sizes : in_range z ≡ false → gate_of z s o ≡ Err BadSizes
   unfolding gate_of
   gate_sizes e = rw e
 
-  pub gate_storage : in_range z ≡ true → too_short F s.index s.lengths s.bytes o ≡ true → gate_of z s o ≡ Shut BadStorage
+  pub gate_storage : in_range z ≡ true → too_short F s.index s.lengths s.bytes o ≡ true → gate_of z s o ≡ Err BadStorage
   unfolding gate_of
   gate_storage e g = rw (e, g)
 
-  pub gate_state : in_range z ≡ true → too_short F s.index s.lengths s.bytes o ≡ false → sound_all F s.counters s.index s.lengths ≡ false → gate_of z s o ≡ Shut BadState
+  pub gate_state : in_range z ≡ true → too_short F s.index s.lengths s.bytes o ≡ false → sound_all F s.counters s.index s.lengths ≡ false → gate_of z s o ≡ Err BadState
   unfolding gate_of
   gate_state e g h = rw (e, g, h)
 
-  pub gate_open : in_range z ≡ true → too_short F s.index s.lengths s.bytes o ≡ false → sound_all F s.counters s.index s.lengths ≡ true → gate_of z s o ≡ Open
+  pub gate_open : in_range z ≡ true → too_short F s.index s.lengths s.bytes o ≡ false → sound_all F s.counters s.index s.lengths ≡ true → gate_of z s o ≡ Ok tt
   unfolding gate_of
   gate_open e g h = rw (e, g, h)
 
@@ -89,27 +87,24 @@ pub record Opened (z : Sizes) (s : States) (o : List ℕ) : Type 0 where
   pub room : RoomForAll z.fragment_size s
   pub output : 16 * z.fragment_size + 17 ≤ length o
 
-shut_open : (why : Refusal) → Shut why ≡ Open → ⊥
-shut_open why e = let z : ◌≡◌ {A = ℕ} 0 1 = cc in omega arith
-
 -- storage that is long enough, with sound streams in it
 pub long_room : (f : ℕ) (s : States) (o : List ℕ) → f ≤ 1024 → Long f s.index s.lengths s.bytes o
     → sound_all f s.counters s.index s.lengths ≡ true → RoomForAll f s
 long_room f s o small l e = let enough = l.bytes_room in room_for_all f s small l.index_room l.lengths_room (omega arith) e
 
-pub opened : (z : Sizes) (s : States) (o : List ℕ) → gate_of z s o ≡ Open → Opened z s o
+pub opened : (z : Sizes) (s : States) (o : List ℕ) → gate_of z s o ≡ Ok tt → Opened z s o
 opened z s o e =
     case (in_range z)
     (λ a.
     case (too_short z.fragment_size s.index s.lengths s.bytes o)
-    (λ b. absurd (shut_open BadStorage (sym (gate_storage z s o a b) ∙ e)))
+    (λ b. no_answer (sym (gate_storage z s o a b) ∙ e))
     (λ b.
     case (sound_all z.fragment_size s.counters s.index s.lengths)
     (λ g.
     let l = long_means z.fragment_size s.index s.lengths s.bytes o b in
     record { room = long_room z.fragment_size s o (size_high z a) l g; output = l.output_room })
-    (λ g. absurd (shut_open BadState (sym (gate_state z s o a b g) ∙ e)))))
-    (λ a. absurd (shut_open BadSizes (sym (gate_sizes z s o a) ∙ e)))
+    (λ g. no_answer (sym (gate_state z s o a b g) ∙ e))))
+    (λ a. no_answer (sym (gate_sizes z s o a) ∙ e))
 
 -- what is accepted is planned at its own place, one of the four
 pub record Accepted (s : States) (id i : ℕ) : Type 0 where
@@ -127,8 +122,6 @@ accepted s id i e =
     let w = plan_on_lem s.counters s.index id i (place_of s.counters.known id) refl ne in
     record { other = ne; place_is = ap (λ (x : Planned). x.at) w; plan_is = ap (λ (x : Planned). x.plan) w })
 
-pub refused_nothing : (a : Arranged) (p : List ℕ) → is_refused a ≡ true → handed_out a p ≡ none
-refused_nothing Out p e = both e refl
-refused_nothing (Held k) p e = both e refl
-refused_nothing Old p e = both e refl
-refused_nothing (Refused why) p e = refl
+pub refused_nothing : (a : Result Arranged Refusal) (p : List ℕ) → is_refused a ≡ true → handed_out a p ≡ None
+refused_nothing (Ok plan) p e = both e refl
+refused_nothing (Err why) p e = refl

@@ -8,10 +8,10 @@ use native.Mathlib.Omega.{arith}
 use borrow.Author.Tests.{eq-eqb, ne_eqb}
 use lib.ListN.{length, take, drop, length-drop}
 use lib.Seq.{length-take-le}
+use Rattle.std.specs.Prelude.{Err}
 use Rattle.terms.specs.declared.Refusal.TheVariants.{NoStream}
 use Rattle.keys.proofs.First.{first_le}
 use Rattle.ordering_plan.specs.Arrange.{plan_of}
-use Rattle.ordering_plan.specs.declared.Arranged.TheVariants.{Refused}
 use Rattle.arranging_plan.specs.Ids.{place_of}
 use Rattle.arranging_plan.specs.Ordered.{part, stream_at, plan_on}
 use Rattle.arranging_plan.specs.declared.ids.StreamIds.{StreamIds}
@@ -33,7 +33,7 @@ place_lt n id few long ne =
     ⊎_elim (λ e. absurd (ne e)) (λ h. h) (eq-or-lt_of_le four)
 
 module _ (s : OrderingStreams) (index : List ℕ) (id i j : ℕ) (e : place_of s.known id ≡ j) where
-  pub plan_none : j ≡ 4 → plan_on s index id i ≡ record { at = 4; plan = Refused NoStream }
+  pub plan_none : j ≡ 4 → plan_on s index id i ≡ record { at = 4; plan = Err NoStream }
   unfolding plan_on
   plan_none h = rw (e, eq-eqb j 4 h)
 

@@ -1,18 +1,16 @@
 -- The ordered streams of an end: stream j has the places 64 j to 64 j + 63 of the tables, and 64 * F bytes from j * (64 * F) on.
-use Rattle.std.specs.Prelude.{ℕ, zero, suc, ◌*◌, ◌≤◌, ◌<◌, Bool, true, cond, ◌&&◌, List, ◌++◌, ◌≡◌, ltb, eqb, length, get_or, take, drop, set, replicate}
+use Rattle.std.specs.Prelude.{ℕ, zero, suc, ◌*◌, ◌≤◌, ◌<◌, Bool, true, cond, ◌&&◌, List, ◌++◌, ◌≡◌, ltb, eqb, length, get_or, take, drop, set, replicate, Result, Ok, Err, Option, Some, None}
 use Rattle.terms.specs.declared.Refusal.TheVariants.{NoStream}
 use Rattle.ordering_plan.specs.Arrange.{plan_of}
 use Rattle.ordering_plan.specs.declared.OrderingStream.{OrderingStream}
-use Rattle.ordering_plan.specs.declared.Arranged.TheVariants.{Refused}
 use Rattle.ordering_plan.specs.State.{State, lending, fresh}
 use Rattle.ordering.specs.Take.{next_of, taken}
 use Rattle.ordering_plan.specs.Gate.{sound}
 use Rattle.ordering_plan.specs.Room.{Room}
-use Rattle.ordering.specs.declared.Taken.{Taken}
-use Rattle.ordering.specs.declared.Taken.TheVariants.{Item, Nothing, Refused as NotTaken}
 use Rattle.arranging_plan.specs.Ids.{place_of, sound_ids, made_at, no_ids}
 use Rattle.arranging_plan.specs.declared.ordered.Planned.{Planned}
 use Rattle.arranging_plan.specs.declared.ordered.OrderingStreams.{OrderingStreams}
+use Rattle.terms.specs.declared.Refusal.{Refusal}
 
 -- the n entries of a table from a on, and a table with others there
 abbrev pub part : List ℕ → ℕ → ℕ → List ℕ
@@ -72,19 +70,19 @@ pub record RoomForAll (f : ℕ) (s : States) : Type 0 where
 -- an item comes on the stream with an id: 7 where it would be a fifth, else what module 4 says
 unfoldable pub plan_on : OrderingStreams → List ℕ → ℕ → ℕ → Planned
 plan_on s index id i =
-    cond (eqb (place_of s.known id) 4) (record { at = 4; plan = Refused NoStream })
+    cond (eqb (place_of s.known id) 4) (record { at = 4; plan = Err NoStream })
     (record { at = place_of s.known id; plan = plan_of (stream_at s (place_of s.known id)) (part index (place_of s.known id * 64) 64) i })
 
 -- the item that is expected on the stream with an id; on one that is not made there is none
-unfoldable pub next_on : ℕ → States → ℕ → Taken
+unfoldable pub next_on : ℕ → States → ℕ → Result (Option ℕ) Refusal
 next_on f s id =
-    cond (ltb (place_of s.counters.known id) s.counters.known.made) (next_of (state_at f s (place_of s.counters.known id))) Nothing
+    cond (ltb (place_of s.counters.known id) s.counters.known.made) (next_of (state_at f s (place_of s.counters.known id))) (Ok None)
 
-abbrev pub taken_on : Taken → ℕ → ℕ → States → States
-taken_on (Item n) f id s =
-    stored_at f s (place_of s.counters.known id) id (taken (Item n) f (state_at f s (place_of s.counters.known id)))
-taken_on Nothing f id s = s
-taken_on (NotTaken why) f id s = s
+abbrev pub taken_on : Result (Option ℕ) Refusal → ℕ → ℕ → States → States
+taken_on (Ok (Some n)) f id s =
+    stored_at f s (place_of s.counters.known id) id (taken (Ok (Some n)) f (state_at f s (place_of s.counters.known id)))
+taken_on (Ok None) f id s = s
+taken_on (Err why) f id s = s
 
 -- not 13: which streams there are, and each of them
 unfoldable pub each_sound : ℕ → OrderingStreams → List ℕ → List ℕ → ℕ → Bool

@@ -5,7 +5,7 @@ ghost use Rattle.arranging_plan.specs.Gate.{too_short, gate_of, is_refused};
 
 use crate::ordered::OrderingStreams;
 use ordering_plan::Arranged;
-use terms::{Gate, Refusal, Sizes};
+use terms::{Refusal, Sizes};
 
 pub fn check(
     sizes: Sizes,
@@ -14,46 +14,33 @@ pub fn check(
     lengths: &[u16],
     bytes: &[u8],
     output: &[u8],
-) -> Gate
+) -> Result<(), Refusal>
     ensures { result ≡ gate_of sizes (lending_all streams index.now lengths.now bytes.now) output.now }
 {
     if !sizes.in_range() {
-        return Gate::Shut(Refusal::BadSizes);
+        return Err(Refusal::BadSizes);
     }
     let f = sizes.fragment_size;
     if too_short(f, index, lengths, bytes, output) {
-        return Gate::Shut(Refusal::BadStorage);
+        return Err(Refusal::BadStorage);
     }
     if !crate::ordered::sound(streams, f, index, lengths) {
-        return Gate::Shut(Refusal::BadState);
+        return Err(Refusal::BadState);
     }
-    Gate::Open
+    Ok(())
 }
 
 // A lent buffer is shorter than stated. For the crates above: requires F in range.
+#[tactic(auto, unfolding(crate::specs::Gate::too_short))]
 pub fn too_short(f: usize, index: &[u32], lengths: &[u16], bytes: &[u8], output: &[u8]) -> bool
     requires { f ≤ 1024 }
     ensures { result ≡ too_short f index.now lengths.now bytes.now output.now }
 {
-    if index.len() < 256 {
-        return true;
-    }
-    if lengths.len() < 256 {
-        return true;
-    }
-    if bytes.len() < 256 * f {
-        return true;
-    }
-    output.len() < 16 * f + 17
+    index.len() < 256 || lengths.len() < 256 || bytes.len() < 256 * f || output.len() < 16 * f + 17
 }
 
-pub fn refused(plan: Arranged) -> bool
+pub fn refused(plan: Result<Arranged, Refusal>) -> bool
     ensures { result ≡ is_refused plan }
 {
-    match plan {
-        Arranged::Out => false,
-        Arranged::Held(_) => false,
-        Arranged::Old => false,
-        Arranged::Refused(_) => true,
-    }
+    plan.is_err()
 }

@@ -19,37 +19,29 @@ impl StreamIds {
         }
     }
 
-    // The place of a stream, or how many are made. For the crates above: requires at most 4.
+    // The place of a stream, or how many are made: there it would be made, so a caller needs the number and no Option. For the
+    // crates above: requires at most 4.
     pub fn place(self, id: u8) -> usize
         requires { self.made ≤ 4 }
         ensures { result ≡ place_of self id }
     {
-        let made = self.made;
-        let mut i: usize = 0;
-        while i < made {
-            if self.ids[i] == id {
-                return i;
-            }
-            i += 1;
-        }
-        i
+        self.ids[..self.made]
+            .iter()
+            .position(|own| *own == id)
+            .unwrap_or(self.made)
     }
 
     // Not 13.
     pub fn sound(self) -> bool
         ensures { result ≡ sound_ids self }
     {
-        let made = self.made;
-        if 4 < made {
+        if 4 < self.made {
             return false;
         }
-        let mut i: usize = 0;
-        while i < made {
-            let id = key(self.ids[i]);
-            if self.place(id) != i {
+        for (i, id) in self.ids[..self.made].iter().enumerate() {
+            if self.place(*id) != i {
                 return false;
             }
-            i += 1;
         }
         true
     }
@@ -60,18 +52,10 @@ impl StreamIds {
         ensures { result ≡ made_at self j id }
     {
         let mut next = self;
-        let made = self.made;
         next.ids[j] = id;
-        if j == made {
-            next.made = made + 1;
+        if j == self.made {
+            next.made = self.made + 1;
         }
         next
     }
-}
-
-// An id is a key of its column.
-fn key(id: u8) -> u8
-    ensures { (result ≡ id) × (result < 65536) }
-{
-    id
 }

@@ -19,7 +19,7 @@ pub struct OrderingStreams {
 #[derive(Clone, Copy)]
 pub struct Planned {
     pub at: usize,
-    pub plan: Arranged,
+    pub plan: Result<Arranged, Refusal>,
 }
 
 impl OrderingStreams {
@@ -33,14 +33,13 @@ impl OrderingStreams {
     }
 
     // The counters at place j. For the crates above: requires a place of the 4.
+    #[tactic(auto, unfolding(crate::specs::Ordered::stream_at))]
     pub fn at(self, j: usize) -> OrderingStream
         requires { j < 4 }
         ensures { result ≡ stream_at self j }
     {
-        let known = self.known;
-        if j < known.made {
-            let stream = self.streams[j];
-            return stream;
+        if j < self.known.made {
+            return self.streams[j];
         }
         OrderingStream::new()
     }
@@ -51,9 +50,7 @@ impl OrderingStreams {
         ensures { result ≡ record { known = made_at self.known j id; streams = set self.streams j stream } }
     {
         let mut next = self;
-        let known = self.known;
-        let after = known.with(j, id);
-        next.known = after;
+        next.known = self.known.with(j, id);
         next.streams[j] = stream;
         next
     }
@@ -64,12 +61,11 @@ pub fn judge(streams: OrderingStreams, index: &[u32], id: u8, item: ItemId) -> P
     requires { (streams.known.made ≤ 4) × (256 ≤ length index.now) × ((j : ℕ) → j < 4 → (stream_at streams j).held ≤ 64) }
     ensures { result ≡ plan_on streams index.now id item.0 }
 {
-    let known = streams.known;
-    let j = known.place(id);
+    let j = streams.known.place(id);
     if j == 4 {
         return Planned {
             at: 4,
-            plan: Arranged::Refused(Refusal::NoStream),
+            plan: Err(Refusal::NoStream),
         };
     }
     let stream = streams.at(j);
@@ -85,17 +81,13 @@ pub fn sound(streams: OrderingStreams, f: usize, index: &[u32], lengths: &[u16])
     requires { (256 ≤ length index.now) × (256 ≤ length lengths.now) }
     ensures { result ≡ sound_all f streams index.now lengths.now }
 {
-    let known = streams.known;
-    if !known.sound() {
+    if !streams.known.sound() {
         return false;
     }
-    let made = known.made;
-    let mut j: usize = 0;
-    while j < made {
+    for j in 0..streams.known.made {
         if !sound_at(streams, f, index, lengths, j) {
             return false;
         }
-        j += 1;
     }
     true
 }

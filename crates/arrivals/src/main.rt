@@ -2,147 +2,133 @@
 // ordered stream does with it and which items go out. The items have no bytes: one that is taken has the index expected.
 #![tactic(auto)]
 
-use ordering::{OrderingStream, Taken};
+use ordering::{Arranged, OrderingStream};
 use serial::ItemId;
-use terms::Sizes;
-
-mod text;
-
-const STANDARD_INPUT: i32 = 0;
-
-const STANDARD_OUTPUT: i32 = 1;
-
-// The stream after some arrivals, and how much of the text is filled.
-#[derive(Clone, Copy)]
-struct Listed {
-    stream: OrderingStream,
-    at: usize,
-}
-
-fn main() {
-    let mut index = [0u32; 64];
-    let mut lengths = [0u16; 64];
-    let mut bytes = [0u8; 64];
-    let mut output = [0u8; 33];
-    io::write_all(STANDARD_OUTPUT, b"index answer out\n");
-    list_all(&mut index, &mut lengths, &mut bytes, &mut output);
-}
-
-// The input is read 4,096 bytes at a time, so that no index lies in two parts. A proved loop has to end, and nothing says that
-// the input does: the loop counts down from a number that no run uses up.
-fn list_all(index: &mut [u32], lengths: &mut [u16], bytes: &mut [u8], output: &mut [u8]) {
-    let mut stream = OrderingStream::new();
-    let mut turns: u64 = u64::MAX;
-    while turns > 0 {
-        let mut input = io::buffer();
-        let n = io::read_full(STANDARD_INPUT, &mut input);
-        stream = list_some(stream, index, lengths, bytes, output, &input[..n]);
-        if n < 4096 {
-            return;
-        }
-        turns -= 1;
-    }
-}
-
-// A line has at most 400 bytes: the text is written out while that many are left.
-fn list_some(
-    stream: OrderingStream,
-    index: &mut [u32],
-    lengths: &mut [u16],
-    bytes: &mut [u8],
-    output: &mut [u8],
-    input: &[u8],
-) -> OrderingStream {
-    let mut space = io::buffer();
-    let text: &mut [u8] = &mut space;
-    let mut after = stream;
-    let mut at: usize = 0;
-    let mut i: usize = 0;
-    while i < input.len() / 2 {
-        let item = ItemId(number(input[2 * i], input[2 * i + 1]));
-        let listed = arrival(after, index, lengths, bytes, output, item, text, at);
-        after = listed.stream;
-        at = text::written_out(text, listed.at, 3600);
-        i += 1;
-    }
-    if input.len() % 2 == 1 {
-        at = text::put(text, at, b"short\n");
-    }
-    text::written_out(text, at, 0);
-    after
-}
-
-// One arrival, and takes until none.
-fn arrival(
-    stream: OrderingStream,
-    index: &mut [u32],
-    lengths: &mut [u16],
-    bytes: &mut [u8],
-    output: &mut [u8],
-    item: ItemId,
-    text: &mut [u8],
-    at: usize,
-) -> Listed {
-    let none = [0u8; 0];
-    let after = ordering::arrange(sizes(), stream, index, lengths, bytes, item, &none, output);
-    let answer = after.answer;
-    let next = after.stream;
-    let named = text::put_number(text, at, item.0);
-    let said = text::put_answer(text, named, answer, item.0);
-    let taken = take_all(next, index, lengths, bytes, output, text, said);
-    let rest = taken.stream;
-    Listed {
-        stream: rest,
-        at: text::put(text, taken.at, b"\n"),
-    }
-}
-
-fn take_all(
-    stream: OrderingStream,
-    index: &mut [u32],
-    lengths: &mut [u16],
-    bytes: &mut [u8],
-    output: &mut [u8],
-    text: &mut [u8],
-    from: usize,
-) -> Listed {
-    let mut after = stream;
-    let mut at = from;
-    let mut k: usize = 0;
-    while k < 65 {
-        let expected = after.expected_index;
-        let took = ordering::take(sizes(), after, index, lengths, bytes, output);
-        after = took.stream;
-        let answer = took.answer;
-        if !is_item(answer) {
-            return Listed { stream: after, at };
-        }
-        at = text::put(text, at, b" ");
-        at = text::put_number(text, at, expected.0);
-        k += 1;
-    }
-    Listed { stream: after, at }
-}
-
-fn is_item(taken: Taken) -> bool {
-    match taken {
-        Taken::Item(_) => true,
-        Taken::Nothing => false,
-        Taken::Refused(_) => false,
-    }
-}
-
-fn number(high: u8, low: u8) -> u16 {
-    (high as u16) * 256 + (low as u16)
-}
+use std::io;
+use std::io::{BufReader, BufWriter, Read, Write};
+use terms::{Refusal, Sizes};
 
 // The least sizes of a link.
-fn sizes() -> Sizes {
-    Sizes {
-        fragment_size: 1,
-        reassembly_slots: 1,
-        max_fragments: 1,
-        packets_in_flight: 1,
-        version: 0,
+const SIZES: Sizes = Sizes {
+    fragment_size: 1,
+    reassembly_slots: 1,
+    max_fragments: 1,
+    packets_in_flight: 1,
+    version: 0,
+};
+
+// The most items that wait, and the least output that a call takes.
+const MOST: usize = 64;
+
+const OUTPUT: usize = 16 + 17;
+
+// A stream, the items that wait in it in the columns that its calls are lent, and where one is written that goes out.
+// `replay_items` has one like it: this program is the README's example of a whole one, and stands on the library alone.
+#[derive(Drop)]
+struct Listed {
+    stream: OrderingStream,
+    index: [u32; MOST],
+    lengths: [u16; MOST],
+    bytes: [u8; MOST],
+    output: [u8; OUTPUT],
+}
+
+// The input ends inside an index.
+#[derive(Clone, Copy)]
+struct Short;
+
+fn main(rt: HostRuntime) -> io::Result<()> {
+    let mut input = BufReader::new(rt.alloc(), rt.stdin())?;
+    let mut out = BufWriter::new(rt.alloc(), io::writer(&rt))?;
+    writeln!(out, "index answer out")?;
+    list(&mut input, &mut out)?;
+    out.flush()
+}
+
+// A proved loop has to end, and nothing says that the input does: this one has more turns than any run uses up.
+fn list(input: &mut impl Read, out: &mut impl Write) -> io::Result<()> {
+    let mut listed = Listed::new();
+    for _ in 0..u64::MAX {
+        match item(input) {
+            Ok(Some(item)) => listed.arrival(item, out)?,
+            Ok(None) => return Ok(()),
+            Err(Short) => return writeln!(out, "short"),
+        }
+    }
+    Ok(())
+}
+
+// The next index, none where the input has ended.
+fn item(input: &mut impl Read) -> Result<Option<ItemId>, Short> {
+    let Some(high) = byte(input) else {
+        return Ok(None);
+    };
+    let low = byte(input).ok_or(Short)?;
+    Ok(Some(ItemId(u16::from_be_bytes([high, low]))))
+}
+
+fn byte(input: &mut impl Read) -> Option<u8> {
+    let mut byte = [0];
+    input.read_exact(&mut byte).ok()?;
+    Some(byte[0])
+}
+
+impl Listed {
+    fn new() -> Listed {
+        Listed {
+            stream: OrderingStream::new(),
+            index: [0; MOST],
+            lengths: [0; MOST],
+            bytes: [0; MOST],
+            output: [0; OUTPUT],
+        }
+    }
+
+    // One arrival, and takes until none.
+    fn arrival(&mut self, item: ItemId, out: &mut impl Write) -> io::Result<()> {
+        let index = item.0;
+        match self.arrange(item) {
+            Ok(Arranged::Out) => write!(out, "{index} out {index}")?,
+            Ok(Arranged::Held(_)) => write!(out, "{index} held -")?,
+            Ok(Arranged::Old) => write!(out, "{index} old -")?,
+            Err(_) => write!(out, "{index} full -")?,
+        }
+        for _ in 0..MOST {
+            let Some(ItemId(taken)) = self.take() else {
+                break;
+            };
+            write!(out, " {taken}")?;
+        }
+        writeln!(out)
+    }
+
+    fn arrange(&mut self, item: ItemId) -> Result<Arranged, Refusal> {
+        let after = ordering::arrange(
+            SIZES,
+            self.stream,
+            &mut self.index,
+            &mut self.lengths,
+            &mut self.bytes,
+            item,
+            b"",
+            &mut self.output,
+        );
+        self.stream = after.stream;
+        after.answer
+    }
+
+    fn take(&mut self) -> Option<ItemId> {
+        let expected = self.stream.expected_index;
+        let after = ordering::take(
+            SIZES,
+            self.stream,
+            &mut self.index,
+            &mut self.lengths,
+            &mut self.bytes,
+            &mut self.output,
+        );
+        self.stream = after.stream;
+        let taken = after.answer.unwrap_or(None);
+        taken.map(|_| expected)
     }
 }

@@ -1,31 +1,29 @@
 // What shows which work was done: the sum of the bytes that went out, and the sum of those sums, which their order changes.
-use crate::tables::Run;
+use std::fmt;
 
 #[derive(Clone, Copy)]
 pub struct Digest {
-    pub sum: u32,
-    pub sums: u32,
+    sum: u32,
+    sums: u32,
 }
 
-// What the last call wrote is added.
-pub fn add(before: Digest, run: Run) -> Digest {
-    let tables = run.tables;
-    let output = tables.output;
-    let count = run.count;
-    let mut sum = before.sum;
-    let mut sums = before.sums;
-    let mut i: usize = 0;
-    while i < 16401 {
-        if count <= i {
-            return Digest { sum, sums };
-        }
-        sum = std::num::wrapping_add_u32(sum, wide(output[i]));
-        sums = std::num::wrapping_add_u32(sums, sum);
-        i += 1;
+impl Digest {
+    pub fn new() -> Digest {
+        Digest { sum: 0, sums: 0 }
     }
-    Digest { sum, sums }
+
+    pub fn add(&mut self, bytes: &[u8]) {
+        for byte in bytes {
+            self.sum = self.sum.wrapping_add(u32::from(*byte));
+            self.sums = self.sums.wrapping_add(self.sum);
+        }
+    }
 }
 
-fn wide(byte: u8) -> u32 {
-    byte as u32
+impl fmt::Display for Digest {
+    fn fmt<W: fmt::Write>(&self, f: &mut fmt::Formatter<W>) -> fmt::Result {
+        let sum = self.sum;
+        let sums = self.sums;
+        write!(f, "{sum} {sums}")
+    }
 }

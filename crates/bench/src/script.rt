@@ -1,95 +1,99 @@
-// The script, on standard input, as bench/script.py writes it; numbers have two bytes, the high one first. It starts with N, F, C and
-// how many steps there are. A step is its kind and what of it is counted (1 byte each), a packet and which of its fragments, and how
-// many bytes follow: an item to send, or a datagram that comes.
-use crate::marks;
-use std::io::Stdout;
+// The script, on standard input, as bench/script.py writes it; numbers have two bytes, the high one first. It starts with N, F, C
+// and how many steps there are. A step is its kind and what of it is counted (1 byte each), a packet and which of its fragments,
+// and how many bytes follow: an item to send, or a datagram that comes. What is cut off counts as 0.
+use crate::marks::{Counted, Marks};
+use packet::OrderingGuarantee;
+use serial::PacketNumber;
+use std::io::{Read, Stdin, Stdout};
 use terms::Sizes;
 
-pub const SEND: u8 = 0;
-
-pub const SEND_ORDERED: u8 = 1;
-
-pub const RECEIVE: u8 = 2;
-
-pub const TAKE: u8 = 3;
-
-// The check of the state, which each call makes first, and a further fragment of the packet.
-pub const LOOK: u8 = 4;
-
-// What is counted of a step, if anything is: its call, the check alone, or nothing between two marks.
-const THE_CALL: u8 = 1;
-
-const THE_CHECK: u8 = 2;
-
-const THE_MARKS: u8 = 3;
-
 #[derive(Clone, Copy)]
-pub struct Start {
-    pub sizes: Sizes,
-    pub steps: u16,
+pub enum Call {
+    Send(OrderingGuarantee),
+    Receive,
+    Take,
+    // The check of the state, which each call makes first, and a further fragment of the packet.
+    Look(PacketNumber, usize),
+}
+
+impl Call {
+    fn of(kind: u8, packet: PacketNumber, part: usize) -> Call {
+        match kind {
+            1 => Call::Send(OrderingGuarantee::Ordered),
+            2 => Call::Receive,
+            3 => Call::Take,
+            4 => Call::Look(packet, part),
+            _ => Call::Send(OrderingGuarantee::None),
+        }
+    }
 }
 
 #[derive(Clone, Copy)]
-pub struct Step {
-    pub kind: u8,
-    pub counts_call: bool,
-    pub counts_check: bool,
-    pub packet: u16,
-    pub part: usize,
-    pub count: usize,
-    pub room: [u8; 16401],
+pub struct Step<'a> {
+    pub call: Call,
+    pub marks: Marks,
+    pub bytes: &'a [u8],
 }
 
-// M is 16, and V laminar's.
-pub fn begin() -> Start {
-    let mut head = [0u8; 8];
-    io::read_full(0, &mut head);
-    Start {
-        sizes: Sizes {
-            fragment_size: two_bytes(head[2], head[3]) as usize,
-            reassembly_slots: two_bytes(head[4], head[5]) as usize,
+#[derive(Drop)]
+pub struct Script {
+    input: Stdin,
+    room: [u8; 16401],
+}
+
+impl Script {
+    pub fn new(input: Stdin) -> Script {
+        Script {
+            input,
+            room: [0; 16401],
+        }
+    }
+
+    // The sizes, and how many steps there are. M is 16, and V laminar's.
+    pub fn begin(&mut self) -> (Sizes, u16) {
+        let [n, f, c, steps] = self.head();
+        let sizes = Sizes {
+            fragment_size: f as usize,
+            reassembly_slots: c as usize,
             max_fragments: 16,
-            packets_in_flight: two_bytes(head[0], head[1]) as usize,
+            packets_in_flight: n as usize,
             version: 21513,
-        },
-        steps: two_bytes(head[6], head[7]),
+        };
+        (sizes, steps)
     }
-}
 
-pub fn next(stdout: Stdout) -> Step {
-    let mut head = [0u8; 8];
-    io::read_full(0, &mut head);
-    let mut room = [0u8; 16401];
-    let count = two_bytes(head[6], head[7]) as usize;
-    read(&mut room, count);
-    let counted = head[1];
-    marks::mark(stdout, counted == THE_MARKS);
-    marks::mark(stdout, counted == THE_MARKS);
-    Step {
-        kind: head[0],
-        counts_call: counted == THE_CALL,
-        counts_check: counted == THE_CHECK,
-        packet: two_bytes(head[2], head[3]),
-        part: two_bytes(head[4], head[5]) as usize,
-        count,
-        room,
+    pub fn next(&mut self, stdout: Stdout) -> Step<'_> {
+        let [kinds, packet, part, count] = self.head();
+        let [kind, counted] = kinds.to_be_bytes();
+        let count = count as usize;
+        self.read(count);
+        let marks = Marks {
+            stdout,
+            counted: Counted::from(counted),
+        };
+        marks.set(Counted::TheMarks);
+        marks.set(Counted::TheMarks);
+        Step {
+            call: Call::of(kind, PacketNumber(packet), part as usize),
+            marks,
+            bytes: self.room.get(..count).unwrap_or(&[]),
+        }
     }
-}
 
-fn two_bytes(high: u8, low: u8) -> u16 {
-    (high as u16) * 256 + (low as u16)
-}
-
-fn read(room: &mut [u8], count: usize) {
-    if count <= room.len() {
-        io::read_full(0, &mut room[0..count]);
+    // Four numbers.
+    fn head(&mut self) -> [u16; 4] {
+        let mut head = [0u8; 8];
+        let _ = self.input.read_exact(&mut head);
+        let [a, b, c, d, e, f, g, h] = head;
+        [[a, b], [c, d], [e, f], [g, h]].map(u16::from_be_bytes)
     }
-}
 
-// The first bytes, so many, or none where there are not so many.
-pub fn first(bytes: &[u8], count: usize) -> &[u8] {
-    if count <= bytes.len() {
-        return &bytes[0..count];
+    // Reads so many bytes, or none where there is no room for them.
+    fn read(&mut self, count: usize) {
+        self.room = [0; 16401];
+        let room = &mut self.room[..];
+        if let Some(bytes) = room.get_mut(..count) {
+            let _ = self.input.read_exact(bytes);
+        }
     }
-    &bytes[0..0]
 }

@@ -8,6 +8,7 @@ use native.Mathlib.Omega.{arith}
 use lib.ListN.{length, get_or}
 use lib.Seq.{length-take-le, get_or-take}
 use borrow.Author.Tests.{lt-ltb, le-ltb}
+use Rattle.std.specs.Prelude.{Ok, Some, None}
 use Rattle.laws.proofs.Slots.{slot_end, part_length}
 use Rattle.terms.specs.declared.Sizes.{Sizes}
 use Rattle.ends.specs.State.{State}
@@ -27,7 +28,6 @@ use Rattle.packet.specs.Build.{Writes}
 use Rattle.packet_table.specs.declared.Headers.{Headers}
 use Rattle.datagrams.specs.Datagrams.{Room}
 use Rattle.datagrams.specs.Further.{place_for, fragment_standard, further_headers, further_datagram, has_further, further_of, further_output}
-use Rattle.datagrams.specs.declared.further.Further.TheVariants.{Datagram, Nothing}
 use Rattle.datagrams.proofs.Fits.{at_most, payload_at_most, take_most}
 
 module _ (z : Sizes) (c : Acknowledgment) (received number bytes : List ℕ) (n j : ℕ) where
@@ -60,20 +60,20 @@ module _ (z : Sizes) (c : Acknowledgment) (received number bytes : List ℕ) (n 
   is_one p o h = rw (lt-ltb _ _ p, lt-ltb _ _ o, lt-ltb _ _ h)
 
   nothing : has_further z number n j ≡ false → (output : List ℕ)
-      → (Nothing ≡ further_of z c received number bytes n j) × (output ≡ further_output z c received number bytes n j output)
+      → ((Ok None) ≡ further_of z c received number bytes n j) × (output ≡ further_output z c received number bytes n j output)
   unfolding further_of further_output
   nothing e output = (rw e, rw e)
 
   pub none_there : N ≤ Place → (output : List ℕ)
-      → (Nothing ≡ further_of z c received number bytes n j) × (output ≡ further_output z c received number bytes n j output)
+      → ((Ok None) ≡ further_of z c received number bytes n j) × (output ≡ further_output z c received number bytes n j output)
   none_there h = nothing (not_there h)
 
   pub none_over : Place < N → Length ≤ F → (output : List ℕ)
-      → (Nothing ≡ further_of z c received number bytes n j) × (output ≡ further_output z c received number bytes n j output)
+      → ((Ok None) ≡ further_of z c received number bytes n j) × (output ≡ further_output z c received number bytes n j output)
   none_over p h = nothing (not_over p h)
 
   pub none_left : Place < N → F < Length → needed Length F ≤ j → (output : List ℕ)
-      → (Nothing ≡ further_of z c received number bytes n j) × (output ≡ further_output z c received number bytes n j output)
+      → ((Ok None) ≡ further_of z c received number bytes n j) × (output ≡ further_output z c received number bytes n j output)
   none_left p o h = nothing (not_one p o h)
 
   -- place, length and number of fragments as the code has them
@@ -87,7 +87,7 @@ module _ (z : Sizes) (c : Acknowledgment) (received number bytes : List ℕ) (n 
       → F < count
       → j < total
       → Writes (datagram z.version h piece) output long after
-      → (Datagram long ≡ further_of z c received number bytes n j) × (after ≡ further_output z c received number bytes n j output)
+      → (Ok (Some long) ≡ further_of z c received number bytes n j) × (after ≡ further_output z c received number bytes n j output)
   unfolding further_of further_output
   written at count total h piece output long after ea ec et eh ep p o l w =
       let length_is : count ≡ Length = ec ∙ ap (λ (k : ℕ). length_of (get_or number k 0)) ea in

@@ -1,6 +1,6 @@
 -- Document 01, module 7: "a further call, given packet number and j, writes fragment j of a payload in flight over F, or answers none
 -- where there is none."
-use Rattle.std.specs.Prelude.{ℕ, Bool, cond, ◌&&◌, List, [], ltb, length, get_or}
+use Rattle.std.specs.Prelude.{ℕ, Bool, cond, ◌&&◌, List, [], ltb, length, get_or, Result, Ok, Err, Option, Some, None}
 use Rattle.keys.specs.Keys.{first_place}
 use Rattle.serial.specs.declared.PacketNumber.{PacketNumber}
 use Rattle.terms.specs.Refusals.{number_of}
@@ -17,14 +17,13 @@ use Rattle.packet_table.specs.declared.Headers.{Headers}
 use Rattle.packet_table.specs.declared.StandardHeader.{StandardHeader}
 use Rattle.packet_table.specs.declared.PacketType.TheVariants.{Fragment}
 use Rattle.packet_table.specs.declared.DeliveryGuarantee.TheVariants.{Reliable}
-use Rattle.packet_table.specs.declared.OrderingGuarantee.TheVariants.{None}
+use Rattle.packet_table.specs.declared.OrderingGuarantee.TheVariants.{None as NoOrder}
 use Rattle.datagrams.specs.Datagrams.{acked_for}
-use Rattle.datagrams.specs.declared.further.Further.{Further}
-use Rattle.datagrams.specs.declared.further.Further.TheVariants.{Datagram, Nothing, Refused}
+use Rattle.terms.specs.declared.Refusal.{Refusal}
 
 -- the standard header of a fragment
 abbrev pub fragment_standard : StandardHeader
-fragment_standard = record { packet_type = Fragment; delivery = Reliable; ordering = None }
+fragment_standard = record { packet_type = Fragment; delivery = Reliable; ordering = NoOrder }
 
 -- fragment j of a packet; by the table only fragment 0 has the acknowledgment header
 abbrev pub further_headers : Acknowledgment → List ℕ → PacketNumber → ℕ → ℕ → Headers
@@ -55,16 +54,16 @@ has_further z number n j =
     && (ltb z.fragment_size (length_of (get_or number (place_for z number n) 0))
     && ltb j (needed (length_of (get_or number (place_for z number n) 0)) z.fragment_size))
 
-unfoldable pub further_of : Sizes → Acknowledgment → List ℕ → List ℕ → List ℕ → ℕ → ℕ → Further
+unfoldable pub further_of : Sizes → Acknowledgment → List ℕ → List ℕ → List ℕ → ℕ → ℕ → Result (Option ℕ) Refusal
 further_of z c received number bytes n j =
-    cond (has_further z number n j) (Datagram (length (further_datagram z c received number bytes n j))) Nothing
+    cond (has_further z number n j) (Ok (Some (length (further_datagram z c received number bytes n j)))) (Ok None)
 
 unfoldable pub further_output : Sizes → Acknowledgment → List ℕ → List ℕ → List ℕ → ℕ → ℕ → List ℕ → List ℕ
 further_output z c received number bytes n j output =
     cond (has_further z number n j) (over (further_datagram z c received number bytes n j) output) output
 
 -- 01's number for each answer, 0 where nothing is refused
-abbrev pub number_of_further : Further → ℕ
-number_of_further (Datagram d) = 0
-number_of_further Nothing = 0
-number_of_further (Refused why) = number_of why
+abbrev pub number_of_further : Result (Option ℕ) Refusal → ℕ
+number_of_further (Ok (Some d)) = 0
+number_of_further (Ok None) = 0
+number_of_further (Err why) = number_of why

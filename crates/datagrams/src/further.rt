@@ -1,6 +1,5 @@
 // The further datagrams of an item that goes as fragments.
-ghost use Rattle.std.specs.Prelude.{◌≡◌, ◌≤◌, ◌<◌, length};
-ghost use Rattle.terms.specs.declared.Gate.TheVariants.{Open};
+ghost use Rattle.std.specs.Prelude.{◌≡◌, ◌≤◌, ◌<◌, length, Ok};
 ghost use Rattle.flight_home.specs.AtHome.{KnownHome};
 ghost use Rattle.acks.specs.State.{table_of};
 ghost use Rattle.ends.specs.State.{lending};
@@ -19,14 +18,6 @@ use packet::{
 };
 use serial::{ItemId, PacketNumber};
 use terms::{Refusal, Sizes};
-
-// A datagram of so many bytes is at the start of the output, or there is no such fragment.
-#[derive(Clone, Copy)]
-pub enum Further {
-    Datagram(usize),
-    Nothing,
-    Refused(Refusal),
-}
 
 // Fragment j of a packet in flight whose payload is over F. For the crates above: requires an end that the gate lets through,
 // and what is said of it: packets in flight at home, a record in laps.
@@ -49,30 +40,29 @@ pub fn fragment(
     output: &mut [u8],
     home: bool,
     lapped: bool,
-) -> Further
-    requires { (gate_of sizes (lending end received.now number.now records.now payloads.now slots.now entry.now header.now joined.now index.now lengths.now held.now) output.old ≡ Open) × KnownHome home (table_of sizes number.now) × KnownLapped lapped received.now }
+) -> Result<Option<usize>, Refusal>
+    requires { (gate_of sizes (lending end received.now number.now records.now payloads.now slots.now entry.now header.now joined.now index.now lengths.now held.now) output.old ≡ Ok tt) × KnownHome home (table_of sizes number.now) × KnownLapped lapped received.now }
     ensures value { result ≡ further_of sizes end.acks received.now number.now payloads.now packet.0 j }
     ensures output_after { output.new ≡ further_output sizes end.acks received.now number.now payloads.now packet.0 j output.old }
 {
     let f = sizes.fragment_size;
     let n = sizes.packets_in_flight;
-    let at = flight_home::direct::find(&number[..n], packet, home);
-    if at == n {
-        return Further::Nothing;
-    }
+    let Some(at) = flight_home::direct::find(&number[..n], packet, home) else {
+        return Ok(None);
+    };
     let count = flight::entry::payload_length(number[at]);
     if count <= f {
-        return Further::Nothing;
+        return Ok(None);
     }
     let total = splitter::fragments_needed(count, f);
     if total <= j {
-        return Further::Nothing;
+        return Ok(None);
     }
     let start = at * (16 * f);
     let piece = splitter::fragment(&payloads[start..start + count], f, j);
     let following = table::headers_after(standard());
     let headers = headers(following, end.acks, received, packet, j, total, lapped);
-    Further::Datagram(builder::write(sizes.version, following, headers, piece, output))
+    Ok(Some(builder::write(sizes.version, following, headers, piece, output)))
 }
 
 fn standard() -> StandardHeader

@@ -6,13 +6,12 @@ use mathlib.Core.Bool.{true, false, not}
 use native.Mathlib.Omega.{arith}
 use lib.ListN.{length, take}
 use lib.Seq.{length-take-le}
-use Rattle.laws.proofs.Cases.{case, each, off}
+use Rattle.std.specs.Prelude.{Ok, Err}
+use Rattle.laws.proofs.Cases.{case, each, no_answer, off}
 use Rattle.keys.specs.Keys.{twice}
 use Rattle.terms.specs.Sizes.{in_range}
 use Rattle.terms.specs.declared.Sizes.{Sizes}
-use Rattle.terms.specs.declared.Refusal.{Refusal}
 use Rattle.terms.specs.declared.Refusal.TheVariants.{BadSizes, BadStorage, BadState}
-use Rattle.terms.specs.declared.Gate.TheVariants.{Open, Shut}
 use Rattle.terms.proofs.Ranges.{InRange, in_range_means}
 use Rattle.received.specs.Record.{slots_of}
 use Rattle.flight.specs.Lost.{Table}
@@ -64,19 +63,19 @@ all_sound z s e =
     record { acks = p.0; parts = q.0; ordered = r.0; sequenced = r.1 }
 
 module _ (z : Sizes) (s : State) (output : List ℕ) where
-  pub gate_sizes : in_range z ≡ false → gate_of z s output ≡ Shut BadSizes
+  pub gate_sizes : in_range z ≡ false → gate_of z s output ≡ Err BadSizes
   unfolding gate_of
   gate_sizes e = rw e
 
-  pub gate_storage : in_range z ≡ true → is_lent z s output ≡ false → gate_of z s output ≡ Shut BadStorage
+  pub gate_storage : in_range z ≡ true → is_lent z s output ≡ false → gate_of z s output ≡ Err BadStorage
   unfolding gate_of
   gate_storage e l = rw (e, l)
 
-  pub gate_state : in_range z ≡ true → is_lent z s output ≡ true → is_sound z s ≡ false → gate_of z s output ≡ Shut BadState
+  pub gate_state : in_range z ≡ true → is_lent z s output ≡ true → is_sound z s ≡ false → gate_of z s output ≡ Err BadState
   unfolding gate_of
   gate_state e l h = rw (e, l, h)
 
-  pub opens : in_range z ≡ true → is_lent z s output ≡ true → is_sound z s ≡ true → gate_of z s output ≡ Open
+  pub opens : in_range z ≡ true → is_lent z s output ≡ true → is_sound z s ≡ true → gate_of z s output ≡ Ok tt
   unfolding gate_of
   opens e l h = rw (e, l, h)
 
@@ -152,10 +151,7 @@ module _ (z : Sizes) (s : State) (output : List ℕ) where
         output_room = t.parts.output_room;
       }
 
-shut : {G : Type 0} (why : Refusal) → Shut why ≡ Open → G
-shut why e = absurd (let z : ◌≡◌ {A = ℕ} 0 1 = cc in omega arith)
-
-pub opened : (z : Sizes) (s : State) (output : List ℕ) → gate_of z s output ≡ Open → Opened z s output
+pub opened : (z : Sizes) (s : State) (output : List ℕ) → gate_of z s output ≡ Ok tt → Opened z s output
 opened z s output e =
     case (in_range z)
     (λ a.
@@ -163,6 +159,6 @@ opened z s output e =
     (λ b.
     case (is_sound z s)
     (λ d. past z s output a b d)
-    (λ d. shut BadState (sym (gate_state z s output a b d) ∙ e)))
-    (λ b. shut BadStorage (sym (gate_storage z s output a b) ∙ e)))
-    (λ a. shut BadSizes (sym (gate_sizes z s output a) ∙ e))
+    (λ d. no_answer (sym (gate_state z s output a b d) ∙ e)))
+    (λ b. no_answer (sym (gate_storage z s output a b) ∙ e)))
+    (λ a. no_answer (sym (gate_sizes z s output a) ∙ e))

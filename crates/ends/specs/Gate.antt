@@ -1,16 +1,16 @@
 -- Document 01, "Order: 1, 2, 13": what every call of a user tries first.
-use Rattle.std.specs.Prelude.{ℕ, Bool, cond, not, ◌&&◌, List, take}
+use Rattle.std.specs.Prelude.{ℕ, Bool, cond, not, ◌&&◌, List, take, Result, Ok, Err, ⊤}
 use Rattle.terms.specs.Sizes.{in_range}
 use Rattle.terms.specs.declared.Sizes.{Sizes}
 use Rattle.terms.specs.declared.Refusal.TheVariants.{BadSizes, BadStorage, BadState}
-use Rattle.terms.specs.declared.Gate.{Gate}
-use Rattle.terms.specs.declared.Gate.TheVariants.{Open, Shut}
 use Rattle.acks.specs.Gate.{lent, sound as acks_sound}
 use Rattle.reassembly_plan.specs.Gate.{too_short as parts_too_short, sound as parts_sound}
 use Rattle.arranging_plan.specs.Ids.{sound_ids}
 use Rattle.arranging_plan.specs.Ordered.{sound_all}
 use Rattle.arranging_plan.specs.Gate.{too_short as ordered_too_short}
 use Rattle.ends.specs.State.{State}
+use Rattle.ends.specs.declared.gate.Seen.{Seen}
+use Rattle.terms.specs.declared.Refusal.{Refusal}
 
 -- not 2: "Lent storage: N x 16 x F in flight, C x 16 x F reassembly, 64 x F per ordered stream, and an output buffer of
 -- 16 x F + 17", and the tables that go with them
@@ -28,9 +28,14 @@ is_sound z s =
     && (sound_all z.fragment_size s.ordered.counters s.ordered.index s.ordered.lengths
     && sound_ids s.sequenced.known))
 
-unfoldable pub gate_of : Sizes → State → List ℕ → Gate
+unfoldable pub gate_of : Sizes → State → List ℕ → Result ⊤ Refusal
 gate_of z s output =
-    cond (not (in_range z)) (Shut BadSizes)
-    (cond (not (is_lent z s output)) (Shut BadStorage)
-    (cond (not (is_sound z s)) (Shut BadState)
-    Open))
+    cond (not (in_range z)) (Err BadSizes)
+    (cond (not (is_lent z s output)) (Err BadStorage)
+    (cond (not (is_sound z s)) (Err BadState)
+    (Ok tt)))
+
+-- what the gate says where it has seen more
+abbrev pub said : Result Seen Refusal → Result ⊤ Refusal
+said (Ok seen) = Ok tt
+said (Err why) = Err why

@@ -1,15 +1,14 @@
 // 1, 2 and 13, which every call of a user tries first: one gate for all of them.
-ghost use Rattle.std.specs.Prelude.{◌≡◌, true, false, [], ◌≤◌, length};
+ghost use Rattle.std.specs.Prelude.{◌≡◌, true, [], ◌≤◌, length, IfOk};
 ghost use Rattle.received.specs.Record.{KnownLapped};
 ghost use Rattle.terms.specs.Sizes.{in_range};
-ghost use Rattle.terms.specs.declared.Gate.TheVariants.{Open, Shut};
 ghost use Rattle.flight_home.specs.AtHome.{AtHome, KnownHome};
 ghost use Rattle.acks.specs.State.{table_of, slot_of};
 ghost use Rattle.ends.specs.State.{lending, fresh_end};
-ghost use Rattle.ends.specs.Gate.{is_lent, is_sound, gate_of};
+ghost use Rattle.ends.specs.Gate.{is_lent, is_sound, gate_of, said};
 
 use crate::End;
-use terms::{Gate, Refusal, Sizes};
+use terms::{Refusal, Sizes};
 
 pub fn check(
     sizes: Sizes,
@@ -26,21 +25,20 @@ pub fn check(
     lengths: &[u16],
     held: &[u8],
     output: &[u8],
-) -> Gate
+) -> Result<(), Refusal>
     ensures { result ≡ gate_of sizes (lending end received.now number.now records.now payloads.now slots.now entry.now header.now joined.now index.now lengths.now held.now) output.now }
 {
-    let checked = look(
+    look(
         sizes, end, received, number, records, payloads, slots, entry, header, joined, index,
         lengths, held, output,
-    );
-    checked.gate
+    )?;
+    Ok(())
 }
 
-// What the gate says, and two things that it may have seen, where a `false` says nothing: each packet in flight at its own
-// place, and the slots of the received record in laps.
+// What the gate has seen of an end that it lets through, where a `false` says nothing: each packet in flight at its own place,
+// and the slots of the received record in laps.
 #[derive(Clone, Copy)]
-pub struct Checked {
-    pub gate: Gate,
+pub struct Seen {
     pub home: bool,
     pub lapped: bool,
 }
@@ -62,49 +60,29 @@ pub fn look(
     lengths: &[u16],
     held: &[u8],
     output: &[u8],
-) -> Checked
-    ensures gate_value { result.gate ≡ gate_of sizes (lending end received.now number.now records.now payloads.now slots.now entry.now header.now joined.now index.now lengths.now held.now) output.now }
-    ensures known_home { KnownHome result.home (table_of sizes number.now) }
-    ensures known_lapped { KnownLapped result.lapped received.now }
+) -> Result<Seen, Refusal>
+    ensures gate_value { said result ≡ gate_of sizes (lending end received.now number.now records.now payloads.now slots.now entry.now header.now joined.now index.now lengths.now held.now) output.now }
+    ensures known_home { IfOk result (λ seen. KnownHome seen.home (table_of sizes number.now)) }
+    ensures known_lapped { IfOk result (λ seen. KnownLapped seen.lapped received.now) }
 {
     if !sizes.in_range() {
-        return shut(Refusal::BadSizes);
+        return Err(Refusal::BadSizes);
     }
     if !is_lent(
         sizes, received, number, records, payloads, slots, entry, header, joined, index, lengths,
         held, output,
     ) {
-        return shut(Refusal::BadStorage);
+        return Err(Refusal::BadStorage);
     }
     let home = is_home(sizes, end, number);
     if !is_sound(sizes, end, number, slots, entry, index, lengths, home) {
-        return shut(Refusal::BadState);
+        return Err(Refusal::BadState);
     }
     let lapped = acks::home::is_lapped(received);
     if !acks::home::is_record_sound(received, lapped) {
-        return shut(Refusal::BadState);
+        return Err(Refusal::BadState);
     }
-    open(home, lapped)
-}
-
-fn open(home: bool, lapped: bool) -> Checked
-    ensures { result ≡ record { gate = Open; home = home; lapped = lapped } }
-{
-    Checked {
-        gate: Gate::Open,
-        home,
-        lapped,
-    }
-}
-
-fn shut(why: Refusal) -> Checked
-    ensures { result ≡ record { gate = Shut why; home = false; lapped = false } }
-{
-    Checked {
-        gate: Gate::Shut(why),
-        home: false,
-        lapped: false,
-    }
+    Ok(Seen { home, lapped })
 }
 
 // Each packet in flight is at its own place, by the number of the next packet. Requires sizes in range, and columns as long

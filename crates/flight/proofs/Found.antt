@@ -1,16 +1,30 @@
 -- Where a number stands, and what is known of its entry. Assumes nothing.
+--     found_at, found_out, found_is, found_none     a place that was found
 --     first_le, first_at     the first place of a key
 --     least_found            the least lost number stands in the table
 --     fits_at                a recorded length is not over its slot
-use Rattle.std.proofs.Common.{◌≡◌, ℕ, zero, suc, ◌<◌, ◌≤◌, true, false, ◌&&◌, eqb, ltb, ◌⊎◌, List, [], ◌∷◌, length, get_or, sym, inl, inr, ⊎_elim, suc-le-suc, zero-le, le_of_suc-le-suc, not-suc-le-zero, arith, lt-ltb, eq-eqb, ne_eqb, eqb-true}
+use Rattle.std.proofs.Common.{◌≡◌, ℕ, zero, suc, ◌<◌, ◌≤◌, true, false, ◌&&◌, eqb, ltb, ◌⊎◌, List, [], ◌∷◌, length, get_or, sym, inl, inr, ⊎_elim, suc-le-suc, zero-le, le_of_suc-le-suc, not-suc-le-zero, arith, Some, None, lt-ltb, le-ltb, ltb-true, ltb-false, eq-eqb, ne_eqb, eqb-true}
 use mathlib.Core.Bool.{or-true}
 use borrow.Author.Tests.{eqb-false}
 use Rattle.laws.proofs.Cases.{case, both, lt_or_le}
 use Rattle.key_parts.specs.Words.{no_packet}
-use Rattle.keys.specs.Keys.{first_place}
+use Rattle.keys.specs.Keys.{first_place, found}
 use Rattle.flight.specs.Entry.{length_of}
 use Rattle.flight.specs.Places.{over_long}
 use Rattle.flight.specs.Lost.{is_lost, least_lost}
+
+module _ (at n : ℕ) where
+  pub found_at : at < n → found at n ≡ Some at
+  found_at h = rw (lt-ltb at n h)
+
+  pub found_out : n ≤ at → found at n ≡ None
+  found_out h = rw (le-ltb at n h)
+
+  pub found_is : (j : ℕ) → found at n ≡ Some j → (at ≡ j) × (at < n)
+  found_is j = case (ltb at n) (λ e. rw e (λ q. (cc, ltb-true at n e))) (λ e. rw e (λ q. absurd (let z : ◌≡◌ {A = ℕ} 0 1 = cc in omega arith)))
+
+  pub found_none : found at n ≡ None → n ≤ at
+  found_none = case (ltb at n) (λ e. rw e (λ q. absurd (let z : ◌≡◌ {A = ℕ} 0 1 = cc in omega arith))) (λ e q. ltb-false at n e)
 
 pub first_here : (k x : ℕ) (l : List ℕ) → x ≡ k → first_place k (x ∷ l) ≡ 0
 unfolding first_place

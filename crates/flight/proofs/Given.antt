@@ -1,6 +1,5 @@
 -- Which packet a drop gives back, and what it leaves. Assumes nothing.
-use Rattle.std.proofs.Common.{◌≡◌, ℕ, zero, suc, ◌<◌, ◌≤◌, Bool, true, false, cond, ◌&&◌, eqb, ltb, List, [], ◌∷◌, length, get_or, set, sym, refl, ap, ◌∙◌, le_of_suc-le-suc, not-suc-le-zero, arith, length-set, get_or-set_other, ltb-false, ltb-true, eqb-true}
-use mathlib.Core.Option.{none, some}
+use Rattle.std.proofs.Common.{◌≡◌, ℕ, zero, suc, ◌<◌, ◌≤◌, Bool, true, false, cond, ◌&&◌, eqb, ltb, List, [], ◌∷◌, length, get_or, set, sym, refl, ap, ◌∙◌, le_of_suc-le-suc, not-suc-le-zero, arith, length-set, get_or-set_other, ltb-false, ltb-true, eqb-true, Some, None}
 use borrow.Author.Tests.{eqb-false}
 use Rattle.laws.proofs.Cases.{case, both}
 use Rattle.keys.specs.Keys.{first_place, twice}
@@ -10,7 +9,6 @@ use Rattle.flight.specs.Places.{count_of}
 use Rattle.flight.specs.Lost.{is_lost, least_lost, drop_of}
 use Rattle.flight.specs.View.{Flight, in_flight, view, without, Sound, distinct_of, FlightFacts}
 use Rattle.flight.specs.declared.lost.Dropped.{Dropped}
-use Rattle.flight.specs.declared.lost.Drop.TheVariants.{Nothing, Packet}
 use Rattle.flight.proofs.Found.{first_at, least_found}
 use Rattle.flight.proofs.Firsts.{first_put_other, first_out, once, rest_once}
 use Rattle.flight.proofs.Stays.{sound_once, stays_acked, stays_dropped, stays-stored}
@@ -57,14 +55,14 @@ module _ (remote : ℕ) (words records : List ℕ) where
   abbrev answer : Dropped
   answer = record { number = record { 0 = least }; sent = packet_of (get_or records place 0); count = length_of (get_or words place 0) }
 
-  pub drop_means : (d : Dropped) → drop_of remote words records ≡ Packet d → (least_lost remote (numbers_in words) < 65536) × (◌≡◌ {A = Dropped} (record { number = record { 0 = least_lost remote (numbers_in words) }; sent = packet_of (get_or records (first_place (least_lost remote (numbers_in words)) (numbers_in words)) 0); count = length_of (get_or words (first_place (least_lost remote (numbers_in words)) (numbers_in words)) 0) }) d)
+  pub drop_means : (d : Dropped) → drop_of remote words records ≡ Some d → (least_lost remote (numbers_in words) < 65536) × (◌≡◌ {A = Dropped} (record { number = record { 0 = least_lost remote (numbers_in words) }; sent = packet_of (get_or records (first_place (least_lost remote (numbers_in words)) (numbers_in words)) 0); count = length_of (get_or words (first_place (least_lost remote (numbers_in words)) (numbers_in words)) 0) }) d)
   unfolding drop_of
   drop_means d =
       case (ltb least 65536)
       (λ q. rw q (λ e. (ltb-true least 65536 q, cc)))
       (λ q. rw q (λ e. absurd (let z : ◌≡◌ {A = ℕ} 0 1 = cc in omega arith)))
 
-  nothing_means : drop_of remote words records ≡ Nothing → 65536 ≤ least_lost remote (numbers_in words)
+  nothing_means : drop_of remote words records ≡ None → 65536 ≤ least_lost remote (numbers_in words)
   unfolding drop_of
   nothing_means =
       case (ltb least 65536)
@@ -80,7 +78,7 @@ module _ (f : Flight) (remote : ℕ) where
   abbrev keys : List ℕ
   keys = numbers_in f.number
 
-  nothing_lost : drop_of remote f.number f.records ≡ Nothing → (m : ℕ) → m < 65536 → in_flight f m ≡ true → is_lost remote m ≡ false
+  nothing_lost : drop_of remote f.number f.records ≡ None → (m : ℕ) → m < 65536 → in_flight f m ≡ true → is_lost remote m ≡ false
   nothing_lost e m v i =
       case (is_lost remote m)
       (λ q.
@@ -88,7 +86,7 @@ module _ (f : Flight) (remote : ℕ) where
       absurd (omega (arith, least_le remote m keys (first_place m keys) h (first_at m keys h) q, nothing_means remote f.number f.records e)))
       (λ q. q)
 
-  module _ (d : Dropped) (e : drop_of remote f.number f.records ≡ Packet d) where
+  module _ (d : Dropped) (e : drop_of remote f.number f.records ≡ Some d) where
     is-least : d.number.0 ≡ least_lost remote keys
     is-least = sym (ap (λ (x : Dropped). x.number.0) (drop_means remote f.number f.records d e).1)
 
@@ -106,17 +104,17 @@ module _ (f : Flight) (remote : ℕ) where
         let h = stands f m i in
         rw is-least (least_le remote m keys (first_place m keys) h (first_at m keys h) lost)
 
-    pub gave-back : (room : ℕ) → view room f d.number.0 ≡ some (record { packet = d.sent; payload = bytes_at room f.bytes (first_place d.number.0 (numbers_in f.number)) d.count })
+    pub gave-back : (room : ℕ) → view room f d.number.0 ≡ Some (record { packet = d.sent; payload = bytes_at room f.bytes (first_place d.number.0 (numbers_in f.number)) d.count })
     gave-back room =
         let same = (drop_means remote f.number f.records d e).1 in
         let at = first_place d.number.0 keys in
         let there : first_place (least_lost remote keys) keys ≡ at = ap (λ (x : ℕ). first_place x keys) (sym is-least) in
         let p : packet_of (get_or f.records at 0) ≡ d.sent = ap (λ (x : ℕ). packet_of (get_or f.records x 0)) (sym there) ∙ ap (λ (x : Dropped). x.sent) same in
         let q : length_of (get_or f.number at 0) ≡ d.count = ap (λ (x : ℕ). length_of (get_or f.number x 0)) (sym there) ∙ ap (λ (x : Dropped). x.count) same in
-        seen room f d.number.0 at refl (rw (sym (numbers_length f.number)) within) ∙ (λ i. some (record { packet = p i; payload = bytes_at room f.bytes at (q i) }))
+        seen room f d.number.0 at refl (rw (sym (numbers_length f.number)) within) ∙ (λ i. Some (record { packet = p i; payload = bytes_at room f.bytes at (q i) }))
 
     pub dropped-seen : (room : ℕ) → Sound room f → (m : ℕ) → m < 65536
-        → view room (without f d) m ≡ cond (eqb m d.number.0) none (view room f m)
+        → view room (without f d) m ≡ cond (eqb m d.number.0) None (view room f m)
     dropped-seen room s m v =
         let n = d.number.0 in
         let k = first_place n keys in

@@ -1,5 +1,5 @@
 pub mod Words
-pub mod Loops
+pub mod Walks
 pub mod Found
 pub mod Room
 pub mod Firsts

@@ -3,14 +3,15 @@
 --     place_means    the place has the number already, or is free
 --     full_place     `full` is that there is no place
 --     at_first, at_free, at_own     where a number goes, by the words of a column
-use Rattle.std.proofs.Common.{◌≡◌, ℕ, zero, suc, ◌%◌, ◌<◌, ◌≤◌, true, false, not, ◌&&◌, eqb, ltb, ◌⊎◌, List, [], ◌∷◌, length, get_or, refl, inl, inr, suc-le-suc, zero-le, le_of_suc-le-suc, not-suc-le-zero, mod-lt, arith, ltb-false, ltb-true, le-ltb, lt-ltb, eq-eqb, ne_eqb, eqb-true}
+--     full_none, full_some          by where one is found to go
+use Rattle.std.proofs.Common.{◌≡◌, ℕ, zero, suc, ◌%◌, ◌<◌, ◌≤◌, true, false, not, ◌&&◌, eqb, ltb, ◌⊎◌, List, [], ◌∷◌, length, get_or, Some, None, refl, ◌∙◌, inl, inr, suc-le-suc, zero-le, le_of_suc-le-suc, not-suc-le-zero, mod-lt, arith, ltb-false, ltb-true, le-ltb, lt-ltb, eq-eqb, ne_eqb, eqb-true}
 use borrow.Author.Tests.{eqb-false}
 use Rattle.laws.proofs.Cases.{case}
-use Rattle.keys.specs.Keys.{first_place}
+use Rattle.keys.specs.Keys.{first_place, found}
 use Rattle.key_parts.specs.Words.{no_packet}
 use Rattle.flight.specs.Entry.{numbers_in}
 use Rattle.flight.specs.Places.{first_free, place_of, others_of, full}
-use Rattle.flight.proofs.Found.{first_le, first_at, first_here, first_later}
+use Rattle.flight.proofs.Found.{found_is, found_none, first_le, first_at, first_here, first_later}
 use Rattle.flight.proofs.Words.{numbers_length, number_here, none_here}
 
 free_here : (x : ℕ) (l : List ℕ) → ltb x 65536 ≡ false → first_free (x ∷ l) ≡ 0
@@ -165,3 +166,18 @@ module _ (n : ℕ) (words : List ℕ) (some : 1 ≤ length words) where
         numbers_length words,
         le-ltb (get_or keys (n % length words) 0) 65536 (none_here words (n % length words) (mod-lt n {m = length words} some) v),
       )
+
+  -- a number has no place exactly where the table is full
+  pub full_none : found (place_of n (numbers_in words)) (length words) ≡ None → full n (numbers_in words) ≡ true
+  full_none e =
+      let long = numbers_length words in
+      let le = place_le n keys (omega arith) in
+      let out = found_none (place_of n keys) (length words) e in
+      full_place n keys (omega arith) ∙ eq-eqb (place_of n keys) (length keys) (omega arith)
+
+  pub full_some : (at : ℕ) → found (place_of n (numbers_in words)) (length words) ≡ Some at
+      → (full n (numbers_in words) ≡ false) × ((place_of n (numbers_in words) ≡ at) × (at < length words))
+  full_some at e =
+      let long = numbers_length words in
+      let is = found_is (place_of n keys) (length words) at e in
+      (full_place n keys (omega arith) ∙ ne_eqb (place_of n keys) (length keys) (λ q. omega (arith, is)), (is.0, omega (arith, is)))

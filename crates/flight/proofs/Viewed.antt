@@ -1,6 +1,5 @@
 -- What each call makes of what is in flight, number by number. Assumes nothing.
-use Rattle.std.proofs.Common.{◌≡◌, ℕ, ◌*◌, ◌<◌, ◌≤◌, false, cond, eqb, ltb, List, map, length, get_or, set, sym, refl, ap, ◌∙◌, ⊎_elim, arith, length-set, get_or-set_other, get_or-set_same, ltb-false, le-ltb, lt-ltb, eqb-true}
-use mathlib.Core.Option.{none, some}
+use Rattle.std.proofs.Common.{◌≡◌, ℕ, ◌*◌, ◌<◌, ◌≤◌, false, cond, eqb, ltb, List, map, length, get_or, set, sym, refl, ap, ◌∙◌, ⊎_elim, arith, length-set, get_or-set_other, get_or-set_same, ltb-false, le-ltb, lt-ltb, eqb-true, Some, None}
 use lib.ListN.{length-map}
 use lib.Seq.{paste}
 use borrow.Author.Tests.{eqb-false}
@@ -22,11 +21,11 @@ use Rattle.flight.proofs.Words.{is_number, length_word, number_word, numbers_len
 use Rattle.flight.proofs.Stays.{sound_fits, place-within, slot-within}
 
 -- a number that is in flight, and one that is not
-pub seen : (room : ℕ) (f : Flight) (m at : ℕ) → first_place m (numbers_in f.number) ≡ at → at < length f.number → view room f m ≡ some (entry_at room f at)
+pub seen : (room : ℕ) (f : Flight) (m at : ℕ) → first_place m (numbers_in f.number) ≡ at → at < length f.number → view room f m ≡ Some (entry_at room f at)
 unfolding view in_flight
 seen room f m at e h = rw (e, lt-ltb at (length f.number) h)
 
-pub unseen : (room : ℕ) (f : Flight) (m : ℕ) → length f.number ≤ first_place m (numbers_in f.number) → view room f m ≡ none
+pub unseen : (room : ℕ) (f : Flight) (m : ℕ) → length f.number ≤ first_place m (numbers_in f.number) → view room f m ≡ None
 unfolding view in_flight
 unseen room f m h = rw (le-ltb (first_place m (numbers_in f.number)) (length f.number) h)
 
@@ -38,7 +37,7 @@ pub alike : (room : ℕ) (f g : Flight) (m : ℕ)
     → view room g m ≡ view room f m
 alike room f g m long place entry =
     ⊎_elim
-    (λ h. seen room g m (first_place m (numbers_in f.number)) place (omega arith) ∙ ap some (entry h) ∙ sym (seen room f m (first_place m (numbers_in f.number)) refl h))
+    (λ h. seen room g m (first_place m (numbers_in f.number)) place (omega arith) ∙ ap Some (entry h) ∙ sym (seen room f m (first_place m (numbers_in f.number)) refl h))
     (λ h. unseen room g m (omega arith) ∙ sym (unseen room f m h))
     (lt_or_le (first_place m (numbers_in f.number)) (length f.number))
 
@@ -53,7 +52,7 @@ pub same_word : (room : ℕ) (f : Flight) (words : List ℕ) (at : ℕ) → get_
 same_word room f words at e = λ i. record { packet = packet_of (get_or f.records at 0); payload = bytes_at room f.bytes at (length_of (e i)) }
 
 pub acked_seen : (room : ℕ) (f : Flight) (acked field m : ℕ) → m < 65536
-    → view room (acknowledged f acked field) m ≡ cond (is_acked acked field m) none (view room f m)
+    → view room (acknowledged f acked field) m ≡ cond (is_acked acked field m) None (view room f m)
 acked_seen room f acked field m h =
     let t = is_acked acked field in
     let u = is_told acked field in
@@ -94,7 +93,7 @@ module _ (room : ℕ) (f : Flight) (n : ℕ) (sent : SentPacket) (payload : List
       (λ e. rw e (omega arith))
       (λ e. omega (arith, h, ltb-false (first_place n (numbers_in f.number)) (length (numbers_in f.number)) e))
 
-  here : view room (stored room f n sent payload) n ≡ some (record { packet = sent; payload = payload })
+  here : view room (stored room f n sent payload) n ≡ Some (record { packet = sent; payload = payload })
   unfolding k w
   here =
       let h = place-within room f s n sent payload number small roomy in
@@ -108,7 +107,7 @@ module _ (room : ℕ) (f : Flight) (n : ℕ) (sent : SentPacket) (payload : List
       ap (bytes_at room (paste f.bytes (k * room) payload (length payload)) k) q
       ∙ paste_read f.bytes payload (k * room) (omega (arith, slot-within room f s n sent payload number small roomy, small.slot)) in
       seen room (stored room f n sent payload) n k (ap (first_place n) after ∙ first_put n (numbers_in f.number) k (omega arith) early) (omega (arith, h, length-set f.number k w))
-      ∙ (λ i. some (record { packet = p i; payload = b i }))
+      ∙ (λ i. Some (record { packet = p i; payload = b i }))
 
   elsewhere : (m : ℕ) → m < 65536 → (m ≡ n → ⊥) → view room (stored room f n sent payload) m ≡ view room f m
   unfolding k w
@@ -134,7 +133,7 @@ module _ (room : ℕ) (f : Flight) (n : ℕ) (sent : SentPacket) (payload : List
       λ i. record { packet = packet_of (record_is i); payload = b i })
 
   pub stored_seen : (m : ℕ) → m < 65536
-      → view room (stored room f n sent payload) m ≡ cond (eqb m n) (some (record { packet = sent; payload = payload })) (view room f m)
+      → view room (stored room f n sent payload) m ≡ cond (eqb m n) (Some (record { packet = sent; payload = payload })) (view room f m)
   stored_seen m v =
       case (eqb m n)
       (λ e. rw (e, eqb-true m n e) here)

@@ -1,46 +1,48 @@
 -- Document 01, module 2: "`dropped_packets` removes, in rising numeric order, those less than the remote acknowledged number
 -- and more than 32 before it; ours gives one at a call, least first, until none."
-use Rattle.std.specs.Prelude.{◌≡◌, ℕ, ◌+◌, ◌*◌, ◌<◌, ◌≤◌, Bool, false, cond, ◌&&◌, List, [], ◌∷◌, ◌++◌, length, drop, nat_lt, slice_index, slice_set}
+use Rattle.std.specs.Prelude.{◌≡◌, ℕ, ◌*◌, ◌<◌, ◌≤◌, Bool, false, cond, ◌&&◌, List, [], ◌∷◌, ◌++◌, length, drop, nat_lt, slice_index, slice_set, Option, Some, None}
 use Rattle.keys.specs.Keys.{first_place}
 use Rattle.serial.specs.Order.{greater, back}
 use Rattle.sequence_buffer.specs.Buffer.{none}
 use Rattle.flight.specs.Entry.{numbers_in, packet_of, length_of, bytes_at}
 use Rattle.flight.specs.Places.{over_long}
-use Rattle.flight.specs.declared.lost.Drop.{Drop}
-use Rattle.flight.specs.declared.lost.Drop.TheVariants.{Nothing, Packet}
+use Rattle.flight.specs.declared.lost.Dropped.{Dropped}
 
 -- "less than the remote acknowledged number and more than 32 before it"
 unfoldable pub is_lost : ℕ → ℕ → Bool
 is_lost remote entry = nat_lt entry 65536 && (greater remote entry && nat_lt 32 (back remote entry))
 
--- no number at the 32 places before one is lost
-pub record NoneLostBefore (remote end : ℕ) (number : List ℕ) : Type 0 where
-  pub whole : 32 ≤ end
-  pub kept : (j : ℕ) → end ≤ j + 32 → j < end → is_lost remote (slice_index number j) ≡ false
+-- none of these numbers is lost
+abbrev pub NoneLost : ℕ → List ℕ → Type 0
+NoneLost remote number = (j : ℕ) → j < length number → is_lost remote (slice_index number j) ≡ false
 
 -- the least of the lost numbers, or none
 unfoldable pub least_lost : ℕ → List ℕ → ℕ
 least_lost remote [] = none
 least_lost remote (x ∷ xs) = cond (nat_lt x (least_lost remote xs) && is_lost remote x) x (least_lost remote xs)
 
+-- a number, or a lesser one that is lost
+abbrev pub lesser : ℕ → ℕ → ℕ → ℕ
+lesser remote least x = cond (nat_lt x least && is_lost remote x) x least
+
 -- what is given back
-unfoldable pub drop_of : ℕ → List ℕ → List ℕ → Drop
+unfoldable pub drop_of : ℕ → List ℕ → List ℕ → Option Dropped
 drop_of remote words records =
     let least = least_lost remote (numbers_in words) in
     let at = first_place least (numbers_in words) in
     cond (nat_lt least 65536)
-    (Packet (record { number = record { 0 = least }; sent = packet_of (slice_index records at); count = length_of (slice_index words at) }))
-    Nothing
+    (Some (record { number = record { 0 = least }; sent = packet_of (slice_index records at); count = length_of (slice_index words at) }))
+    None
 
 -- its entry goes
-abbrev pub number_left : Drop → List ℕ → List ℕ
-number_left Nothing words = words
-number_left (Packet d) words = slice_set words (first_place d.number.0 (numbers_in words)) none
+abbrev pub number_left : Option Dropped → List ℕ → List ℕ
+number_left None words = words
+number_left (Some d) words = slice_set words (first_place d.number.0 (numbers_in words)) none
 
 -- its payload is written at the output's start; "None" leaves everything
-abbrev pub output_left : Drop → ℕ → List ℕ → List ℕ → List ℕ → List ℕ
-output_left Nothing room words bytes output = output
-output_left (Packet d) room words bytes output =
+abbrev pub output_left : Option Dropped → ℕ → List ℕ → List ℕ → List ℕ → List ℕ
+output_left None room words bytes output = output
+output_left (Some d) room words bytes output =
     bytes_at room bytes (first_place d.number.0 (numbers_in words)) d.count ++ drop d.count output
 
 -- what is required of a table: a record and a slot for each place, and no length over its slot

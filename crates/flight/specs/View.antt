@@ -1,7 +1,6 @@
 -- What is in flight as a user sees it: under each number the record and the payload, or nothing. Then what each call makes
 -- of it, whatever the places.
-use Rattle.std.specs.Prelude.{◌≡◌, ℕ, suc, ◌*◌, ◌<◌, ◌≤◌, Bool, true, false, cond, not, ◌&&◌, List, [], ◌∷◌, map, length, ◌==◌, nat_lt, slice_index, slice_set}
-use Rattle.std.proofs.Math.Option.{Option, none, some}
+use Rattle.std.specs.Prelude.{◌≡◌, ℕ, suc, ◌*◌, ◌<◌, ◌≤◌, Bool, true, false, cond, not, ◌&&◌, List, [], ◌∷◌, map, length, ◌==◌, nat_lt, slice_index, slice_set, Some, None, Option}
 use Rattle.std.proofs.Math.Seq.{paste}
 use Rattle.keys.specs.Keys.{first_place, occurs}
 use Rattle.sequence_buffer.specs.Buffer.{emptied}
@@ -11,7 +10,6 @@ use Rattle.flight.specs.Acked.{is_acked, is_told}
 use Rattle.flight.specs.Lost.{is_lost, drop_of, number_left}
 use Rattle.flight.specs.declared.SentPacket.{SentPacket}
 use Rattle.flight.specs.declared.lost.Dropped.{Dropped}
-use Rattle.flight.specs.declared.lost.Drop.TheVariants.{Nothing, Packet}
 
 pub record Flight : Type 0 where
   pub number : List ℕ
@@ -31,7 +29,7 @@ entry_at room f at =
     record { packet = packet_of (slice_index f.records at); payload = bytes_at room f.bytes at (length_of (slice_index f.number at)) }
 
 unfoldable pub view : ℕ → Flight → ℕ → Option Sent
-view room f n = cond (in_flight f n) (some (entry_at room f (first_place n (numbers_in f.number)))) none
+view room f n = cond (in_flight f n) (Some (entry_at room f (first_place n (numbers_in f.number)))) None
 
 -- what each call makes of the columns, as their contracts say
 abbrev pub stored : ℕ → Flight → ℕ → SentPacket → List ℕ → Flight
@@ -47,7 +45,7 @@ acknowledged f acked field =
     record { number = map (emptied (is_told acked field)) f.number; records = f.records; bytes = f.bytes }
 
 abbrev pub without : Flight → Dropped → Flight
-without f d = record { number = number_left (Packet d) f.number; records = f.records; bytes = f.bytes }
+without f d = record { number = number_left (Some d) f.number; records = f.records; bytes = f.bytes }
 
 -- a record and a slot for each place, and not 13
 pub record Sound (room : ℕ) (f : Flight) : Type 0 where
@@ -80,31 +78,31 @@ pub record FlightFacts : Type 0 where
       → full n (numbers_in f.number) ≡ false
       → (m : ℕ)
       → m < 65536
-      → view room (stored room f n sent payload) m ≡ cond (m == n) (some (record { packet = sent; payload = payload })) (view room f m)
+      → view room (stored room f n sent payload) m ≡ cond (m == n) (Some (record { packet = sent; payload = payload })) (view room f m)
   -- "removes from flight exactly the acknowledged number and each number i before it whose bit is set"
   pub acked_view : (room : ℕ) (f : Flight) (acked field m : ℕ)
       → m < 65536
-      → view room (acknowledged f acked field) m ≡ cond (is_acked acked field m) none (view room f m)
+      → view room (acknowledged f acked field) m ≡ cond (is_acked acked field m) None (view room f m)
   -- a drop gives back what was in flight, and only that goes
   pub given_back : (room : ℕ) (f : Flight) (remote : ℕ) (d : Dropped)
-      → drop_of remote f.number f.records ≡ Packet d
-      → view room f d.number.0 ≡ some (record { packet = d.sent; payload = bytes_at room f.bytes (first_place d.number.0 (numbers_in f.number)) d.count })
+      → drop_of remote f.number f.records ≡ Some d
+      → view room f d.number.0 ≡ Some (record { packet = d.sent; payload = bytes_at room f.bytes (first_place d.number.0 (numbers_in f.number)) d.count })
   pub dropped_view : (room : ℕ) (f : Flight) (remote : ℕ) (d : Dropped)
       → Sound room f
-      → drop_of remote f.number f.records ≡ Packet d
+      → drop_of remote f.number f.records ≡ Some d
       → (m : ℕ)
       → m < 65536
-      → view room (without f d) m ≡ cond (m == d.number.0) none (view room f m)
+      → view room (without f d) m ≡ cond (m == d.number.0) None (view room f m)
   -- it is the least lost number in flight; where nothing is dropped, none is lost
-  pub lost : (f : Flight) (remote : ℕ) (d : Dropped) → drop_of remote f.number f.records ≡ Packet d → is_lost remote d.number.0 ≡ true
+  pub lost : (f : Flight) (remote : ℕ) (d : Dropped) → drop_of remote f.number f.records ≡ Some d → is_lost remote d.number.0 ≡ true
   pub least : (f : Flight) (remote : ℕ) (d : Dropped)
-      → drop_of remote f.number f.records ≡ Packet d
+      → drop_of remote f.number f.records ≡ Some d
       → (m : ℕ)
       → in_flight f m ≡ true
       → is_lost remote m ≡ true
       → d.number.0 ≤ m
   pub none_lost : (f : Flight) (remote : ℕ)
-      → drop_of remote f.number f.records ≡ Nothing
+      → drop_of remote f.number f.records ≡ None
       → (m : ℕ)
       → m < 65536
       → in_flight f m ≡ true

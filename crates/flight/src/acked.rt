@@ -10,10 +10,8 @@ use serial::PacketNumber;
 pub fn remove(number: &mut [u32], acked: PacketNumber, field: u32)
     ensures { number.new ≡ map (emptied (is_told acked.0 field)) number.old }
 {
-    let mut i: usize = 0;
-    while i < number.len() {
-        number[i] = without_acked(number[i], acked, field);
-        i += 1;
+    for word in number.iter_mut() {
+        *word = without_acked(*word, acked, field);
     }
 }
 

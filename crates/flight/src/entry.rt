@@ -14,6 +14,7 @@ pub fn word(packet: PacketNumber, count: usize) -> u32
 }
 
 // The number of a packet, or none.
+#[tactic(auto, unfolding(crate::specs::Entry::number_in))]
 pub fn number(word: u32) -> u32
     ensures { result ≡ number_in word }
 {
@@ -30,6 +31,7 @@ pub fn payload_length(word: u32) -> usize
     (word % 32768) as usize
 }
 
+// Its name says which of a place's two words is made, as `u32::from` would not.
 pub fn pack(sent: SentPacket) -> u32
     ensures { result ≡ packed sent }
 {

@@ -49,6 +49,7 @@ pub fn store(
 }
 
 // What each call makes of the packets in flight, number by number. It has no code: its contract is the theorem.
+#[tactic(auto, using(crate::proofs::Given::facts))]
 pub fn flight_facts()
     ensures { FlightFacts }
 {}

@@ -1,8 +1,8 @@
 // Which packets are given up as dropped: one a call, the least number first.
-ghost use Rattle.std.specs.Prelude.{◌≡◌, ℕ, ◌+◌, ◌*◌, ◌<◌, ◌≤◌, true, false, length, slice_index};
+ghost use Rattle.std.specs.Prelude.{◌≡◌, ℕ, ◌+◌, ◌*◌, ◌<◌, ◌≤◌, true, false, fold, length, slice_index};
 ghost use Rattle.key_parts.specs.Words.{no_packet};
 ghost use Rattle.flight.specs.Entry.{number_in, numbers_in};
-ghost use Rattle.flight.specs.Lost.{is_lost, NoneLostBefore, least_lost, Table, drop_of, number_left, output_left};
+ghost use Rattle.flight.specs.Lost.{is_lost, NoneLost, least_lost, lesser, Table, drop_of, number_left, output_left};
 
 use crate::SentPacket;
 use key_parts::parts::NO_PACKET;
@@ -16,12 +16,6 @@ pub struct Dropped {
     pub count: usize,
 }
 
-#[derive(Clone, Copy)]
-pub enum Drop {
-    Nothing,
-    Packet(Dropped),
-}
-
 // Takes the least lost packet out of flight. Requires a sound table, and an output that holds any slot.
 pub fn drop_one(
     number: &mut [u32],
@@ -30,7 +24,7 @@ pub fn drop_one(
     room: usize,
     remote: PacketNumber,
     output: &mut [u8],
-) -> Drop
+) -> Option<Dropped>
     requires { Table room number.old records.now bytes.now × (room ≤ length output.old) }
     ensures value { result ≡ drop_of remote.0 number.old records.now }
     ensures number_after { number.new ≡ number_left (drop_of remote.0 number.old records.now) number.old }
@@ -38,15 +32,15 @@ pub fn drop_one(
 {
     let least = least_lost(number, remote);
     if least >= 65536 {
-        return Drop::Nothing;
+        return None;
     }
     let packet = PacketNumber(least as u16);
-    let at = crate::places::find(number, packet);
+    let at = crate::places::find(number, packet)?;
     let count = crate::entry::payload_length(number[at]);
     let start = at * room;
     copying::copy(&bytes[start..start + count], output);
     number[at] = sequence_buffer::NONE;
-    Drop::Packet(Dropped {
+    Some(Dropped {
         number: packet,
         sent: crate::entry::sent_packet(records[at]),
         count,
@@ -58,50 +52,40 @@ fn least_lost(number: &[u32], remote: PacketNumber) -> u32
     ensures { result ≡ least_lost remote.0 (numbers_in number.now) }
 {
     let mut least = sequence_buffer::NONE;
-    let mut i = number.len();
-    while 0 < i {
-        if is_none_lost_before(number, i, remote) {
-            i -= key_parts::parts::PART;
-        } else {
-            i -= 1;
-            let entry = crate::entry::number(number[i]);
-            if entry < least {
-                if is_lost(entry, remote) {
-                    least = entry;
-                }
-            }
+    for part in number.chunks(key_parts::parts::PART) {
+        if !is_none_lost(part, remote) {
+            least = lesser(least, part, remote);
         }
     }
     least
 }
 
-// The part that ends before a place is one of the table's, and it is easily seen that none of its numbers is lost.
-fn is_none_lost_before(number: &[u32], end: usize, remote: PacketNumber) -> bool
-    requires { (0 < end) × (end ≤ length number.now) }
-    ensures { result ≡ true → NoneLostBefore remote.0 end (numbers_in number.now) }
+// It is easily seen that none of the numbers of a part is lost. Without a branch for each the compiler looks at several at once.
+fn is_none_lost(part: &[u32], remote: PacketNumber) -> bool
+    ensures { result ≡ true → NoneLost remote.0 (numbers_in part.now) }
 {
-    if end % key_parts::parts::PART != 0 {
-        return false;
-    }
-    let at = end - key_parts::parts::PART;
-    if keys::none_below(number, at, key_parts::parts::PART, NO_PACKET) {
+    if keys::none_below(part, NO_PACKET) {
         return true;
     }
-    none_lost_in(number, at, remote.0)
-}
-
-// None of the part's numbers is lost. Requires the part.
-fn none_lost_in(number: &[u32], at: usize, remote: u16) -> bool
-    requires { at + 32 ≤ length number.now }
-    ensures { result ≡ true → (k : ℕ) → k < 32 → is_lost remote (number_in (slice_index number.now (at + k))) ≡ false }
-{
-    let mut all: u32 = 4294967295;
-    let mut k: usize = 0;
-    while k < key_parts::parts::PART {
-        all = all & unless_near(number[at + k], remote);
-        k += 1;
+    let mut all = u32::MAX;
+    for word in part {
+        all &= unless_near(*word, remote.0);
     }
     NO_PACKET <= all
+}
+
+// A number, or the least of a part's that are lost.
+fn lesser(least: u32, part: &[u32], remote: PacketNumber) -> u32
+    ensures { result ≡ fold (lesser remote.0) least (numbers_in part.now) }
+{
+    let mut least = least;
+    for word in part {
+        let entry = crate::entry::number(*word);
+        if entry < least && is_lost(entry, remote) {
+            least = entry;
+        }
+    }
+    least
 }
 
 // A word, or none where its number is at most 32 before the remote acknowledged number, or after it.
@@ -109,11 +93,8 @@ fn unless_near(word: u32, remote: u16) -> u32
     ensures { no_packet ≤ result → is_lost remote (number_in word) ≡ false }
 {
     let before = std::num::wrapping_sub_u32(remote as u32, word / 32768) % 65536;
-    if before < 33 {
-        return 4294967295;
-    }
-    if 32768 < before {
-        return 4294967295;
+    if before < 33 || 32768 < before {
+        return u32::MAX;
     }
     word
 }
@@ -122,10 +103,7 @@ fn unless_near(word: u32, remote: u16) -> u32
 fn is_lost(entry: u32, remote: PacketNumber) -> bool
     ensures { result ≡ is_lost remote.0 entry }
 {
-    if entry < 65536 {
-        if serial::sequence_less_than(entry as u16, remote.0) {
-            return serial::distance(remote.0, entry as u16) > 32;
-        }
-    }
-    false
+    entry < 65536
+        && serial::sequence_less_than(entry as u16, remote.0)
+        && serial::distance(remote.0, entry as u16) > 32
 }

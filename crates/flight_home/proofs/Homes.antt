@@ -12,12 +12,14 @@ use Prim.Native.Nat.{ℕ, ◌-◌, ◌*◌, ◌/◌, ◌%◌, ◌≤◌, ◌<◌
 use native.Mathlib.Nat.{mod-lt, div-add-mod', mul-mod_left}
 use native.Mathlib.Omega.{arith}
 use lib.ListN.{length, get_or}
+use Rattle.std.specs.Prelude.{Some, None}
 use Rattle.key_parts.specs.Words.{no_packet}
 use Rattle.keys.specs.Home.{Home}
-use Rattle.keys.specs.Keys.{first_place}
+use Rattle.keys.specs.Keys.{first_place, found}
 use Rattle.keys.proofs.Homes.{step_home, home_once, home_here, home-away}
 use Rattle.flight.specs.Entry.{numbers_in}
 use Rattle.flight.specs.Places.{sound, place_of}
+use Rattle.flight.proofs.Found.{found_at, found_out}
 use Rattle.flight.proofs.Room.{at_first, at_own}
 use Rattle.flight.proofs.Stays.{fits_all}
 use Rattle.flight.proofs.Words.{has_number, is_number, numbers_length, numbers_at}
@@ -75,17 +77,27 @@ module _ (n : ℕ) (number : List ℕ) (small : n < 65536) (some : 0 < length nu
   some_key : 0 < length (numbers_in number)
   some_key = rw (numbers_length number) some
 
-  pub first_here : get_or number (n % length number) 0 / 32768 ≡ n → n % length number ≡ first_place n (numbers_in number)
-  first_here e =
+  own_first : get_or number (n % length number) 0 / 32768 ≡ n → n % length number ≡ first_place n (numbers_in number)
+  own_first e =
       sym own_place ∙ sym (home_here keys h n small some_key (ap (λ (x : ℕ). get_or keys x 0) own_place ∙ number_is n number small (n % length number) within e))
 
-  pub first_away : (get_or number (n % length number) 0 / 32768 ≡ n → ⊥) → length number ≡ first_place n (numbers_in number)
-  first_away apart =
+  away : (get_or number (n % length number) 0 / 32768 ≡ n → ⊥) → length number ≡ first_place n (numbers_in number)
+  away apart =
       sym (numbers_length number)
       ∙ sym (home-away keys h n small (λ e. number_not n number small (n % length number) within apart (ap (λ (x : ℕ). get_or keys x 0) (sym own_place) ∙ e)))
 
-  pub place_here : get_or number (n % length number) 0 / 32768 ≡ n → n % length number ≡ place_of n (numbers_in number)
-  place_here e = first_here e ∙ at_first n number some (omega (arith, first_here e, within))
+  -- what is its own place is found there
+  own_found : (at : ℕ) → n % length number ≡ at → Some (n % length number) ≡ found at (length number)
+  own_found at e = sym (ap (λ (k : ℕ). found k (length number)) (sym e) ∙ found_at (n % length number) (length number) within)
 
-  pub place_free : no_packet ≤ get_or number (n % length number) 0 → n % length number ≡ place_of n (numbers_in number)
-  place_free v = at_own n number some (omega (arith, first_away (λ e. omega arith))) v
+  pub first_here : get_or number (n % length number) 0 / 32768 ≡ n → Some (n % length number) ≡ found (first_place n (numbers_in number)) (length number)
+  first_here e = own_found (first_place n (numbers_in number)) (own_first e)
+
+  pub first_away : (get_or number (n % length number) 0 / 32768 ≡ n → ⊥) → None ≡ found (first_place n (numbers_in number)) (length number)
+  first_away apart = sym (found_out (first_place n (numbers_in number)) (length number) (omega (arith, away apart)))
+
+  pub place_here : get_or number (n % length number) 0 / 32768 ≡ n → Some (n % length number) ≡ found (place_of n (numbers_in number)) (length number)
+  place_here e = own_found (place_of n (numbers_in number)) (own_first e ∙ at_first n number some (omega (arith, own_first e, within)))
+
+  pub place_free : no_packet ≤ get_or number (n % length number) 0 → Some (n % length number) ≡ found (place_of n (numbers_in number)) (length number)
+  place_free v = own_found (place_of n (numbers_in number)) (at_own n number some (omega (arith, away (λ e. omega arith))) v)

@@ -3,7 +3,7 @@
 ghost use Rattle.std.specs.Prelude.{◌≡◌, true, ◌||◌, map, ◌-◌, ◌≤◌, eqb, length};
 ghost use Rattle.laws.specs.Bits.{bit};
 ghost use Rattle.keys.specs.Home.{Home};
-ghost use Rattle.keys.specs.Keys.{first_place};
+ghost use Rattle.keys.specs.Keys.{first_place, found};
 ghost use Rattle.sequence_buffer.specs.Buffer.{emptied};
 ghost use Rattle.flight.specs.Entry.{number_in, numbers_in};
 ghost use Rattle.flight.specs.Acked.{is_told};
@@ -13,9 +13,9 @@ ghost use Rattle.flight_home.specs.AtHome.{KnownHome};
 use serial::PacketNumber;
 
 // `flight::places::place`. Requires a place.
-pub fn place(number: &[u32], packet: PacketNumber, home: bool) -> usize
+pub fn place(number: &[u32], packet: PacketNumber, home: bool) -> Option<usize>
     requires { (1 ≤ length number.now) × (home ≡ true → Home (numbers_in number.now)) }
-    ensures { result ≡ place_of packet.0 (numbers_in number.now) }
+    ensures { result ≡ found (place_of packet.0 (numbers_in number.now)) (length number.now) }
 {
     if home {
         return place_at_home(number, packet);
@@ -24,25 +24,25 @@ pub fn place(number: &[u32], packet: PacketNumber, home: bool) -> usize
 }
 
 // A number that is there stands at its own place, so one whose own place is free goes there.
-fn place_at_home(number: &[u32], packet: PacketNumber) -> usize
+fn place_at_home(number: &[u32], packet: PacketNumber) -> Option<usize>
     requires { (1 ≤ length number.now) × Home (numbers_in number.now) }
-    ensures { result ≡ place_of packet.0 (numbers_in number.now) }
+    ensures { result ≡ found (place_of packet.0 (numbers_in number.now)) (length number.now) }
 {
     let own = (packet.0 as usize) % number.len();
     let word = number[own];
     if word / 32768 == packet.0 as u32 {
-        return own;
+        return Some(own);
     }
     if word >= key_parts::parts::NO_PACKET {
-        return own;
+        return Some(own);
     }
     flight::places::place(number, packet)
 }
 
 // `flight::places::find`.
-pub fn find(number: &[u32], packet: PacketNumber, home: bool) -> usize
+pub fn find(number: &[u32], packet: PacketNumber, home: bool) -> Option<usize>
     requires { KnownHome home number.now }
-    ensures { result ≡ first_place packet.0 (numbers_in number.now) }
+    ensures { result ≡ found (first_place packet.0 (numbers_in number.now)) (length number.now) }
 {
     if home {
         return find_at_home(number, packet);
@@ -51,15 +51,15 @@ pub fn find(number: &[u32], packet: PacketNumber, home: bool) -> usize
 }
 
 // A number is at its own place, or nowhere.
-fn find_at_home(number: &[u32], packet: PacketNumber) -> usize
+fn find_at_home(number: &[u32], packet: PacketNumber) -> Option<usize>
     requires { (1 ≤ length number.now) × Home (numbers_in number.now) }
-    ensures { result ≡ first_place packet.0 (numbers_in number.now) }
+    ensures { result ≡ found (first_place packet.0 (numbers_in number.now)) (length number.now) }
 {
     let own = (packet.0 as usize) % number.len();
     if number[own] / 32768 == packet.0 as u32 {
-        return own;
+        return Some(own);
     }
-    number.len()
+    None
 }
 
 // `flight::acked::remove`.
@@ -79,12 +79,10 @@ fn remove_at_home(number: &mut [u32], acked: PacketNumber, field: u32)
     requires { (1 ≤ length number.old) × Home (numbers_in number.old) }
     ensures { number.new ≡ map (emptied (is_told acked.0 field)) number.old }
 {
-    let mut i: u16 = 0;
-    while i < 33 {
+    for i in 0..33 {
         if is_told(field, i) {
             remove_own(number, PacketNumber(serial::distance(acked.0, i)));
         }
-        i += 1;
     }
 }
 

@@ -44,14 +44,21 @@ fn are_parts_home(number: &[u32], room: u32, here: usize, lap: u32, last: u32) -
     ensures { result ≡ true → (j : ℕ) → j < length number.now → PlaceHome room lap last number.now j }
 {
     let newest = newest_part(number, here);
-    let end = number.len() / key_parts::wide::WIDE * key_parts::wide::WIDE;
-    let mut at: usize = 0;
-    while at < end {
-        if !is_part_home(number, room, here, newest, at, lap, last) {
+    let parts = number.len() / key_parts::wide::WIDE;
+    for part in 0..parts {
+        if !is_part_home(
+            number,
+            room,
+            here,
+            newest,
+            part * key_parts::wide::WIDE,
+            lap,
+            last,
+        ) {
             return false;
         }
-        at += key_parts::wide::WIDE;
     }
+    let at = parts * key_parts::wide::WIDE;
     if at == number.len() {
         return true;
     }
@@ -89,7 +96,7 @@ fn is_free(number: &[u32], newest: usize, at: usize) -> bool
     if number[at + 63] < NO_PACKET {
         return false;
     }
-    keys::none_below(number, at, key_parts::wide::WIDE, NO_PACKET)
+    keys::none_below(&number[at..at + key_parts::wide::WIDE], NO_PACKET)
 }
 
 // Where the part begins that has the newest number, if that is in flight. It makes the answer quick, not right.
@@ -149,8 +156,12 @@ fn after_free(number: &[u32], at: usize) -> usize
     requires { at ≤ length number.now }
     ensures { (at ≤ result) × (result ≤ length number.now) × ((j : ℕ) → at ≤ j → j < result → no_packet ≤ get_or number.now j 0) }
 {
-    if is_part_free(number, at) {
-        return at + key_parts::parts::PART;
+    if number.len() - at < key_parts::parts::PART {
+        return at;
+    }
+    let after = at + key_parts::parts::PART;
+    if keys::none_below(&number[at..after], NO_PACKET) {
+        return after;
     }
     at
 }
@@ -160,14 +171,10 @@ fn is_rest_home(number: &[u32], room: u32, from: usize, lap: u32, last: u32) -> 
     requires { (from ≤ length number.now) × (length number.now ≤ 256) × (lap < 65536) × (last < 65536) }
     ensures { result ≡ true → (j : ℕ) → from ≤ j → j < length number.now → PlaceHome room lap last number.now j }
 {
-    let mut i = from;
-    while i < number.len() {
-        if number[i] < NO_PACKET {
-            if !is_entry_home(number[i], room, i as u32, lap, last) {
-                return false;
-            }
+    for i in from..number.len() {
+        if number[i] < NO_PACKET && !is_entry_home(number[i], room, i as u32, lap, last) {
+            return false;
         }
-        i += 1;
     }
     true
 }
@@ -186,6 +193,7 @@ fn is_entry_home(word: u32, room: u32, place: u32, lap: u32, last: u32) -> bool
 }
 
 // Not 13, as `flight::places::is_sound` tells it, quickly where the table is at home. Requires at most 256 places.
+#[tactic(auto, using(crate::proofs::Homes::home_sound))]
 pub fn is_sound(number: &[u32], room: usize) -> bool
     requires { length number.now ≤ 256 }
     ensures { result ≡ sound room number.now }
@@ -210,33 +218,21 @@ fn is_seen_home(number: &[u32], room: usize) -> bool
     is_home(number, room, PacketNumber(first_number(number)))
 }
 
+// Where no packet is in flight, any number will do.
 fn first_number(number: &[u32]) -> u16 {
-    let mut i: usize = 0;
-    while i < number.len() {
-        if is_part_free(number, i) {
-            i += key_parts::parts::PART;
-        } else {
-            if number[i] < NO_PACKET {
-                return (number[i] / 32768) as u16;
-            }
-            i += 1;
+    for part in number.chunks(key_parts::parts::PART) {
+        if !keys::none_below(part, NO_PACKET) {
+            return first_of(part);
         }
     }
     0
 }
 
-// A part starts here, and has no packet.
-fn is_part_free(number: &[u32], at: usize) -> bool
-    ensures { result ≡ true → (at + 32 ≤ length number.now) × ((k : ℕ) → k < 32 → no_packet ≤ get_or number.now (at + k) 0) }
-{
-    if at % key_parts::parts::PART != 0 {
-        return false;
+fn first_of(part: &[u32]) -> u16 {
+    for word in part {
+        if *word < NO_PACKET {
+            return (*word / 32768) as u16;
+        }
     }
-    if number.len() < key_parts::parts::PART {
-        return false;
-    }
-    if number.len() - key_parts::parts::PART < at {
-        return false;
-    }
-    keys::none_below(number, at, key_parts::parts::PART, NO_PACKET)
+    0
 }

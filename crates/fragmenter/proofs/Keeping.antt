@@ -11,6 +11,7 @@ use lib.ListN.{length, get_or, set, take, drop, length-set, get_or-replicate}
 use lib.Pow.{pow-lt}
 use lib.Seq.{get_or-set_same, get_or-set_other, take_at}
 use borrow.Author.Tests.{eqb-true, eqb-false, ltb-false, leb-false}
+use Rattle.std.specs.Prelude.{Result, Ok, Err, ⊤}
 use Rattle.laws.proofs.Cases.{case, both}
 use Rattle.laws.proofs.Lists.{map_at}
 use Rattle.serial.specs.Order.{back}
@@ -29,9 +30,7 @@ use Rattle.reassembly_plan.specs.Table.{Growing}
 use Rattle.reassembly_plan.specs.declared.plan.Fragment.{Fragment}
 use Rattle.reassembly_plan.specs.declared.plan.Joining.{Joining}
 use Rattle.reassembly_plan.specs.declared.plan.Plan.{Plan}
-use Rattle.reassembly_plan.specs.declared.plan.Plan.TheVariants.{Refuse, Make, Join}
-use Rattle.terms.specs.declared.Gate.{Gate}
-use Rattle.terms.specs.declared.Gate.TheVariants.{Open, Shut}
+use Rattle.reassembly_plan.specs.declared.plan.Plan.TheVariants.{Make, Join}
 use Rattle.reassembly_plan.proofs.Below.{all_of}
 use Rattle.reassembly_plan.proofs.Sound.{entry_holds, opened_sound, grown_sound, found_sound, below_most, at_most}
 use Rattle.reassembly.proofs.Planned.{plan_joins}
@@ -39,6 +38,7 @@ use Rattle.reassembly_plan.proofs.Opening.{gate_opens}
 use Rattle.reassembly.proofs.Passing.{open_room}
 use Rattle.fragmenter.specs.Runs.{Call, after, Fresh, StaysSound}
 use Rattle.fragmenter.proofs.Packed.{entry_again}
+use Rattle.terms.specs.declared.Refusal.{Refusal}
 
 -- what stands in another slot after an insert stood there before
 emptied_number : (t : ℕ → Bool) (x : ℕ) → emptied t x < 65536 → emptied t x ≡ x
@@ -87,23 +87,23 @@ kept_set f c slots entry new k w was home others good = record {
 }
 
 -- a plan that changes the table was made at an open gate
-acts : Plan → Bool
-acts (Refuse why) = false
-acts Make = true
-acts (Join j) = true
+acts : Result Plan Refusal → Bool
+acts (Err why) = false
+acts (Ok Make) = true
+acts (Ok (Join j)) = true
 
-module _ (z : Sizes) (s : State) (output : List ℕ) (g : Fragment) (len : ℕ) (plan : Plan) (active : acts plan ≡ true) where
-  open_gate : (t : Gate) → plan_at t z s g len ≡ plan
-      → (t ≡ Open) × (len ≤ z.fragment_size) × (plan_of s.num (take z.reassembly_slots s.slots) s.entry g len ≡ plan)
+module _ (z : Sizes) (s : State) (output : List ℕ) (g : Fragment) (len : ℕ) (plan : Result Plan Refusal) (active : acts plan ≡ true) where
+  open_gate : (t : Result ⊤ Refusal) → plan_at t z s g len ≡ plan
+      → (t ≡ Ok tt) × (len ≤ z.fragment_size) × (plan_of s.num (take z.reassembly_slots s.slots) s.entry g len ≡ plan)
   unfolding acts
-  open_gate (Shut why) e = both active (sym (ap acts e))
-  open_gate Open e =
+  open_gate (Err why) e = both active (sym (ap acts e))
+  open_gate (Ok tt) e =
       case (ltb z.fragment_size len)
       (λ h. both active (sym (ap acts (rw h at e))))
       (λ h. (refl, ltb-false z.fragment_size len h, rw h at e))
 
   planned : decided z s output g len ≡ plan
-      → (gate_of z s.slots s.entry s.header s.bytes output ≡ Open) × (len ≤ z.fragment_size)
+      → (gate_of z s.slots s.entry s.header s.bytes output ≡ Ok tt) × (len ≤ z.fragment_size)
       × (plan_of s.num (take z.reassembly_slots s.slots) s.entry g len ≡ plan)
   unfolding decided
   planned e = open_gate (gate_of z s.slots s.entry s.header s.bytes output) e
@@ -119,7 +119,7 @@ joined_sound : (f : ℕ) (slots entry : List ℕ) (g : Fragment) (num len : ℕ)
     → g.number.0 < 65536
     → g.count < 256
     → len ≤ f
-    → plan_of num slots entry g len ≡ Join j
+    → plan_of num slots entry g len ≡ Ok (Join j)
     → entry_sound f (entry_of (entry_word j.entry)) ≡ true
 joined_sound f slots entry g num len j room n c l e =
     let was = found (known slots g) entry (slot_of slots g) g.count in
@@ -159,15 +159,15 @@ joined_at false false c num slots n i l h apart = λ v. refl
 
 -- a call keeps the table
 module _ (z : Sizes) (s : State) (output : List ℕ) (g : Fragment) (len : ℕ) (number_fits : g.number.0 < 65536) (count_fits : g.count < 256) where
-  pub kept_plan : (plan : Plan)
+  pub kept_plan : (plan : Result Plan Refusal)
       → decided z s output g len ≡ plan
       → Kept z.fragment_size z.reassembly_slots (take z.reassembly_slots s.slots) s.entry
       → Kept z.fragment_size z.reassembly_slots
       (slots_after plan s.num (take z.reassembly_slots s.slots) g.number.0)
       (entry_after plan g.count (slot_of (take z.reassembly_slots s.slots) g) s.entry)
   unfolding slots_after entry_after acts
-  kept_plan (Refuse why) e was = was
-  kept_plan Make e was =
+  kept_plan (Err why) e was = was
+  kept_plan (Ok Make) e was =
       let f = z.fragment_size in
       let c = z.reassembly_slots in
       let slots = take c s.slots in
@@ -177,12 +177,12 @@ module _ (z : Sizes) (s : State) (output : List ℕ) (g : Fragment) (len : ℕ) 
       (home_inserted c s.num slots n was.home)
       (λ i h apart v. inserted_at s.num slots n i (omega arith) apart v)
       (opened_again f g.count count_fits)
-  kept_plan (Join j) e was =
+  kept_plan (Ok (Join j)) e was =
       let f = z.fragment_size in
       let c = z.reassembly_slots in
       let slots = take c s.slots in
       let n = g.number.0 in
-      let p = planned z s output g len (Join j) refl e in
+      let p = planned z s output g len (Ok (Join j)) refl e in
       let o = gate_opens z s.slots s.entry s.header s.bytes output p.0 in
       let room = (open_room z s.slots s.entry s.header s.bytes output s.num o).table in
       kept_set f c slots s.entry _ (slot_of slots g) _ was
@@ -231,7 +231,7 @@ kept_sound f c slots entry k =
 -- a sound table is not refused 13
 
 never : (z : Sizes) (slots entry header bytes output : List ℕ) → sound z.fragment_size (take z.reassembly_slots slots) entry ≡ true
-    → gate_of z slots entry header bytes output ≡ Shut BadState → ⊥
+    → gate_of z slots entry header bytes output ≡ Err BadState → ⊥
 unfolding gate_of
 never z slots entry header bytes output good e =
     case (in_range z)

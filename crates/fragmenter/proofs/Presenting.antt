@@ -12,6 +12,7 @@ use lib.Pow.{pow_mono}
 use lib.ListN.{length, get_or, set, take, drop, length-set, length-take, length-drop, length-replicate}
 use lib.Seq.{get_or-set_same, take_at, take-add, take_all, take-length, length-take-le, drop-drop, paste, length-paste}
 use borrow.Author.Tests.{eq-eqb, ne_eqb, le-ltb, lt-leb, ltb-false, eqb-false}
+use Rattle.std.specs.Prelude.{Ok, Some, None}
 use Rattle.laws.proofs.Cases.{case, lt_or_le}
 use Rattle.laws.proofs.Bits.{bits_lt, bits_at}
 use Rattle.laws.proofs.Paste.{part_other, part_same}
@@ -21,7 +22,6 @@ use Rattle.terms.specs.declared.Sizes.{Sizes}
 use Rattle.terms.proofs.Ranges.{in_range_means}
 use Rattle.sequence_buffer.specs.Buffer.{none, fresh, holds, removed_slots}
 use Rattle.splitter.specs.Split.{needed, split_of}
-use Rattle.splitter.specs.declared.Split.TheVariants.{Pieces}
 use Rattle.splitter.proofs.Pieces.{begins, piece_at, piece_count, piece_full, splits}
 use Rattle.reassembly_plan.specs.Words.{entry_word, header_word}
 use Rattle.reassembly_plan.specs.Plan.{found, grown, judged, passed, plan_of}
@@ -32,8 +32,6 @@ use Rattle.reassembly_plan.specs.declared.words.Entry.{Entry}
 use Rattle.reassembly_plan.specs.declared.words.AckHeader.{AckHeader}
 use Rattle.reassembly_plan.specs.declared.plan.Joining.{Joining}
 use Rattle.reassembly_plan.specs.declared.plan.Plan.TheVariants.{Join}
-use Rattle.reassembly.specs.declared.effects.Answer.TheVariants.{Waiting, Whole}
-use Rattle.terms.specs.declared.Gate.TheVariants.{Open}
 use Rattle.fragmenter.specs.Present.{part, count_of, piece_of, presented, Ready, GivesBack}
 use Rattle.fragmenter.proofs.Packed.{entry_again, header_again}
 use Rattle.fragmenter.proofs.Keeping.{Kept, Keeps, made_slots, kept_call, kept_fresh, kept_sound}
@@ -44,7 +42,7 @@ gate_open : (z : Sizes) (slots entry header bytes output : List ℕ)
     → in_range z ≡ true
     → too_short z.fragment_size z.reassembly_slots slots entry header bytes output ≡ false
     → sound z.fragment_size (take z.reassembly_slots slots) entry ≡ true
-    → gate_of z slots entry header bytes output ≡ Open
+    → gate_of z slots entry header bytes output ≡ Ok tt
 unfolding gate_of
 gate_open z slots entry header bytes output a b d = rw (a, b, d)
 
@@ -56,7 +54,7 @@ not_short f c slots entry header bytes output p q r s t =
     rw (le-ltb (length slots) c p, le-ltb (length entry) c q, le-ltb (length header) c r, le-ltb (length bytes) (c * (16 * f)) s, le-ltb (length output) (16 * f + 17) t)
 
 -- a payload that is split has at most M pieces
-few_pieces : (z : Sizes) (n k : ℕ) → split_of z n ≡ Pieces k → needed n z.fragment_size ≤ z.max_fragments
+few_pieces : (z : Sizes) (n k : ℕ) → split_of z n ≡ Ok k → needed n z.fragment_size ≤ z.max_fragments
 unfolding split_of
 few_pieces z n k e =
     case (in_range z)
@@ -133,7 +131,7 @@ module _ (z : Sizes) (s : State) (outputs : ℕ → List ℕ) (n : ℕ) (h : Ack
   }
 
   decided_is : (k : ℕ) (t : State) → At k t → k < count_of z payload
-      → decided z t (outputs k) (part n h (count_of z payload) k) (length (piece_of z payload k)) ≡ Join (joining k t)
+      → decided z t (outputs k) (part n h (count_of z payload) k) (length (piece_of z payload k)) ≡ Ok (Join (joining k t))
   unfolding decided plan_of judged joining
   decided_is k t at l =
       let f = z.fragment_size in
@@ -316,7 +314,7 @@ module _ (z : Sizes) (s : State) (outputs : ℕ → List ℕ) (n : ℕ) (h : Ack
 
   -- before the last fragment
   pub waiting : (j : ℕ) → suc j < count_of z payload
-      → (told z (presented z s outputs n h payload j) (outputs j) (part n h (count_of z payload) j) (piece_of z payload j) ≡ Waiting)
+      → (told z (presented z s outputs n h payload j) (outputs j) (part n h (count_of z payload) j) (piece_of z payload j) ≡ Ok None)
       × (output_of z (presented z s outputs n h payload j) (outputs j) (part n h (count_of z payload) j) (piece_of z payload j) ≡ outputs j)
   unfolding answer_of joined_answer output_after joining
   waiting j l =
@@ -326,7 +324,7 @@ module _ (z : Sizes) (s : State) (outputs : ℕ → List ℕ) (n : ℕ) (h : Ack
       (rw (d, less), rw (d, less))
 
   pub complete_one : (j : ℕ) → suc j ≡ count_of z payload
-      → (told z (presented z s outputs n h payload j) (outputs j) (part n h (count_of z payload) j) (piece_of z payload j) ≡ Whole (record { length = length payload; header = h }))
+      → (told z (presented z s outputs n h payload j) (outputs j) (part n h (count_of z payload) j) (piece_of z payload j) ≡ Ok (Some (record { length = length payload; header = h })))
       × (output_of z (presented z s outputs n h payload j) (outputs j) (part n h (count_of z payload) j) (piece_of z payload j) ≡ written payload (outputs j))
       × (take z.reassembly_slots (presented z s outputs n h payload (suc j)).slots ≡ fresh z.reassembly_slots)
   unfolding answer_of joined_answer output_after joining presented end

@@ -1,15 +1,13 @@
 -- Document 01, module 3: a payload's fragments, presented in order, each once, give it back.
-use Rattle.std.specs.Prelude.{◌≡◌, true, false, List, [], ℕ, zero, suc, ◌+◌, ◌*◌, ◌<◌, ◌≤◌, length, get_or, take}
+use Rattle.std.specs.Prelude.{◌≡◌, true, false, List, [], ℕ, zero, suc, ◌+◌, ◌*◌, ◌<◌, ◌≤◌, length, get_or, take, Ok, Some, None}
 use Rattle.terms.specs.Sizes.{in_range}
 use Rattle.terms.specs.declared.Sizes.{Sizes}
 use Rattle.sequence_buffer.specs.Buffer.{fresh, too_old}
 use Rattle.splitter.specs.Split.{pieces, split_of}
-use Rattle.splitter.specs.declared.Split.TheVariants.{Pieces}
 use Rattle.reassembly.specs.Effects.{State, written}
 use Rattle.reassembly.specs.Call.{handled, told, output_of}
 use Rattle.reassembly_plan.specs.declared.words.AckHeader.{AckHeader}
 use Rattle.reassembly_plan.specs.declared.plan.Fragment.{Fragment}
-use Rattle.reassembly.specs.declared.effects.Answer.TheVariants.{Waiting, Whole}
 use Rattle.fragmenter.specs.Runs.{Fresh}
 
 -- fragment j of `count` under packet number n
@@ -39,7 +37,7 @@ pub record Ready (z : Sizes) (s : State) (outputs : ℕ → List ℕ) (n : ℕ) 
   pub number_fits : n < 65536
   pub young : too_old 0 (fresh z.reassembly_slots) n ≡ false
   pub header_fits : (h.number.0 < 65536) × (h.acked.0 < 65536)
-  pub can_split : split_of z (length payload) ≡ Pieces (count_of z payload)
+  pub can_split : split_of z (length payload) ≡ Ok (count_of z payload)
 
 pub record GivesBack : Type 0 where
   -- before the last fragment nothing comes out
@@ -47,13 +45,13 @@ pub record GivesBack : Type 0 where
       → Ready z s outputs n h payload
       → (j : ℕ)
       → suc j < count_of z payload
-      → (told z (presented z s outputs n h payload j) (outputs j) (part n h (count_of z payload) j) (piece_of z payload j) ≡ Waiting)
+      → (told z (presented z s outputs n h payload j) (outputs j) (part n h (count_of z payload) j) (piece_of z payload j) ≡ Ok None)
       × (output_of z (presented z s outputs n h payload j) (outputs j) (part n h (count_of z payload) j) (piece_of z payload j) ≡ outputs j)
   -- with it the payload and fragment 0's header do, and the entry is gone
   pub whole : (z : Sizes) (s : State) (outputs : ℕ → List ℕ) (n : ℕ) (h : AckHeader) (payload : List ℕ)
       → Ready z s outputs n h payload
       → (j : ℕ)
       → suc j ≡ count_of z payload
-      → (told z (presented z s outputs n h payload j) (outputs j) (part n h (count_of z payload) j) (piece_of z payload j) ≡ Whole (record { length = length payload; header = h }))
+      → (told z (presented z s outputs n h payload j) (outputs j) (part n h (count_of z payload) j) (piece_of z payload j) ≡ Ok (Some (record { length = length payload; header = h })))
       × (output_of z (presented z s outputs n h payload j) (outputs j) (part n h (count_of z payload) j) (piece_of z payload j) ≡ written payload (outputs j))
       × (take z.reassembly_slots (presented z s outputs n h payload (suc j)).slots ≡ fresh z.reassembly_slots)

@@ -1,5 +1,5 @@
 -- Document 01: "From a fresh end whose sizes, state and storage go from call to call unaltered, 13 never arises."
-use Rattle.std.specs.Prelude.{◌≡◌, List, [], ◌∷◌, ℕ, ◌<◌, ◌≤◌, length, take}
+use Rattle.std.specs.Prelude.{◌≡◌, List, [], ◌∷◌, ℕ, ◌<◌, ◌≤◌, length, take, Err}
 use Rattle.terms.specs.declared.Sizes.{Sizes}
 use Rattle.terms.specs.declared.Refusal.TheVariants.{BadState}
 use Rattle.sequence_buffer.specs.Buffer.{fresh}
@@ -7,7 +7,6 @@ use Rattle.reassembly.specs.Effects.{State}
 use Rattle.reassembly_plan.specs.Gate.{gate_of}
 use Rattle.reassembly.specs.Call.{handled}
 use Rattle.reassembly_plan.specs.declared.plan.Fragment.{Fragment}
-use Rattle.terms.specs.declared.Gate.TheVariants.{Shut}
 
 -- a call of `handle_fragment`, with whatever output it is lent
 pub record Call : Type 0 where
@@ -32,5 +31,5 @@ pub record Fresh (z : Sizes) (s : State) : Type 0 where
 -- whatever is called and lent, no call after it is refused 13
 pub record StaysSound : Type 0 where
   pub never : (z : Sizes) (s : State) → Fresh z s → (calls : List Call) (output : List ℕ)
-      → gate_of z (after z s calls).slots (after z s calls).entry (after z s calls).header (after z s calls).bytes output ≡ Shut BadState
+      → gate_of z (after z s calls).slots (after z s calls).entry (after z s calls).header (after z s calls).bytes output ≡ Err BadState
       → ⊥

@@ -11,12 +11,10 @@ pub fn is_lapped(keys: &[u32]) -> bool
     ensures keys_value { result ≡ true → twice keys.now ≡ false }
     ensures lapped { result ≡ true → Lapped keys.now }
 {
-    let shift = std::num::wrapping_sub_u32(495, keys[0]);
-    let mut odd: u32 = 0;
-    let mut k: usize = 1;
-    while k < 33 {
-        odd = odd | oddity(std::num::wrapping_add_u32(keys[k], shift), k as u32);
-        k += 1;
+    let shift = 495u32.wrapping_sub(keys[0]);
+    let mut odd = 0;
+    for k in 1..33 {
+        odd |= oddity(keys[k].wrapping_add(shift), k as u32);
     }
     odd % 32 == 0 && odd < 1024
 }
@@ -25,6 +23,6 @@ pub fn is_lapped(keys: &[u32]) -> bool
 fn oddity(entry: u32, place: u32) -> u32
     ensures { result % 32 ≡ 0 → result < 1024 → InLap place entry }
 {
-    let laps = std::num::wrapping_sub_u32(entry, place);
+    let laps = entry.wrapping_sub(place);
     laps ^ (laps >> 5)
 }

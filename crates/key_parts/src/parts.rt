@@ -9,31 +9,15 @@ pub const PART: usize = 32;
 // The least word that has no packet.
 pub const NO_PACKET: u32 = 2147483648;
 
-// None of the part's words has a packet. Requires the part.
-pub fn none_in(words: &[u32], at: usize) -> bool
-    requires { at + 32 ≤ length words.now }
-    ensures { result ≡ true → (k : ℕ) → k < 32 → no_packet ≤ slice_index words.now (at + k) }
-{
-    let mut all: u32 = 4294967295;
-    let mut k: usize = 0;
-    while k < PART {
-        all = all & words[at + k];
-        k += 1;
-    }
-    NO_PACKET <= all
-}
-
 // Each number of the part is its place added to one of two numbers, and no length is over `room`. Requires the part.
 pub fn in_step(words: &[u32], at: usize, lap: u32, last: u32, room: u32) -> bool
     requires { (at + 32 ≤ length words.now) × (at < 65536) × (lap < 65536) × (last < 65536) }
     ensures { result ≡ true → (k : ℕ) → k < 32 → Placed room lap last (at + k) (slice_index words.now (at + k)) }
 {
-    let mut all: u32 = 4294967295;
-    let mut k: usize = 0;
-    while k < PART {
+    let mut all = u32::MAX;
+    for (k, word) in words[at..at + PART].iter().enumerate() {
         let place = (at + k) as u32;
-        all = all & unless(words[at + k], lap + place, last + place, room);
-        k += 1;
+        all &= unless(*word, lap + place, last + place, room);
     }
     NO_PACKET <= all
 }
@@ -45,11 +29,8 @@ fn unless(word: u32, this: u32, that: u32, room: u32) -> u32
     if room < word % 32768 {
         return word;
     }
-    if word / 32768 == this {
-        return 4294967295;
-    }
-    if word / 32768 == that {
-        return 4294967295;
+    if word / 32768 == this || word / 32768 == that {
+        return u32::MAX;
     }
     word
 }

@@ -7,33 +7,15 @@ use crate::parts::NO_PACKET;
 // How many words a wide part has.
 pub const WIDE: usize = 64;
 
-// None of the part's words has a packet. Requires the part.
-pub fn none_in(words: &[u32], at: usize) -> bool
-    requires { at + 64 ≤ length words.now }
-    ensures { result ≡ true → (k : ℕ) → k < 64 → no_packet ≤ slice_index words.now (at + k) }
-{
-    let mut all: u32 = 4294967295;
-    let mut k: usize = 0;
-    while k < WIDE {
-        all = all & words[at + k];
-        k += 1;
-    }
-    NO_PACKET <= all
-}
-
 // The part's numbers follow each other: each is its place in the part added to a number, which is a multiple of 64, so that
 // no sum is to be made. No length is over `room`. Requires the part.
 pub fn follows(words: &[u32], at: usize, first: u32, room: u32) -> bool
     requires { (at + 64 ≤ length words.now) × (first < 65536) × (first % 64 ≡ 0) × (room ≤ 16384) }
     ensures { result ≡ true → (k : ℕ) → k < 64 → Word room (first + k) (first + k) (slice_index words.now (at + k)) }
 {
-    let mut all: u32 = 4294967295;
-    let mut place: u32 = 0;
-    let mut k: usize = 0;
-    while k < WIDE {
-        all = all & without(words[at + k], first, place, room);
-        place += 32768;
-        k += 1;
+    let mut all = u32::MAX;
+    for (k, word) in words[at..at + WIDE].iter().enumerate() {
+        all &= without(*word, first, k as u32 * 32768, room);
     }
     NO_PACKET <= all
 }
@@ -44,5 +26,5 @@ fn without(word: u32, first: u32, place: u32, room: u32) -> u32
     requires { (first < 65536) × (first % 64 ≡ 0) × (place < 2097152) × (place % 32768 ≡ 0) × (room ≤ 16384) }
     ensures { no_packet ≤ result → Word room (first + place / 32768) (first + place / 32768) word }
 {
-    std::num::wrapping_sub_u32((word ^ place) ^ (first * 32768), room + 1)
+    ((word ^ place) ^ (first * 32768)).wrapping_sub(room + 1)
 }

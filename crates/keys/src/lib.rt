@@ -3,37 +3,27 @@
 #![tactic(auto)]
 
 ghost use Rattle.std.specs.Prelude.{◌≡◌, true, false, ℕ, ◌+◌, ◌≤◌, ◌<◌, length, get_or};
-ghost use Rattle.keys.specs.Keys.{first_place, twice};
+ghost use Rattle.keys.specs.Keys.{first_place, found, twice};
 ghost use Rattle.keys.specs.Exact.{TwiceIsExact};
 
 mod marks;
 mod slots;
 
-// The first place of a key, or the column's length where it has none.
-pub fn find(keys: &[u32], key: u16) -> usize
-    ensures { result ≡ first_place key keys.now }
+// The first place of a key.
+pub fn find(keys: &[u32], key: u16) -> Option<usize>
+    ensures { result ≡ found (first_place key keys.now) (length keys.now) }
 {
-    let mut i: usize = 0;
-    while i < keys.len() {
-        if keys[i] == key as u32 {
-            return i;
-        }
-        i += 1;
-    }
-    i
+    keys.iter().position(|entry| *entry == key as u32)
 }
 
-// None of n entries from a place on is below another number. Without a branch for each the compiler looks at several at once. A
-// `false` says nothing. For the crates above: requires the entries.
-pub fn none_below(keys: &[u32], at: usize, n: usize, least: u32) -> bool
-    requires { at + n ≤ length keys.now }
-    ensures { result ≡ true → (k : ℕ) → k < n → least ≤ get_or keys.now (at + k) 0 }
+// No entry is below a number. Without a branch for each the compiler looks at several at once. A `false` says nothing. For the
+// crates above.
+pub fn none_below(keys: &[u32], least: u32) -> bool
+    ensures { result ≡ true → (k : ℕ) → k < length keys.now → least ≤ get_or keys.now k 0 }
 {
-    let mut all: u32 = 4294967295;
-    let mut k: usize = 0;
-    while k < n {
-        all = all & keys[at + k];
-        k += 1;
+    let mut all = u32::MAX;
+    for key in keys {
+        all &= *key;
     }
     least <= all
 }
@@ -42,10 +32,7 @@ pub fn none_below(keys: &[u32], at: usize, n: usize, least: u32) -> bool
 pub fn has_twice(keys: &[u32]) -> bool
     ensures { result ≡ twice keys.now }
 {
-    if at_home(keys) {
-        return false;
-    }
-    if rising(keys) {
+    if at_home(keys) || rising(keys) {
         return false;
     }
     marks::has_twice(keys)
@@ -58,15 +45,10 @@ fn at_home(keys: &[u32]) -> bool
     if keys.len() == slots::SLOTS {
         return slots::at_home(keys);
     }
-    let mut i: usize = 0;
-    while i < keys.len() {
-        let key = keys[i];
-        if key < 65536 {
-            if (key as usize) % keys.len() != i {
-                return false;
-            }
+    for (i, key) in keys.iter().enumerate() {
+        if *key < 65536 && *key as usize % keys.len() != i {
+            return false;
         }
-        i += 1;
     }
     true
 }
@@ -75,17 +57,16 @@ fn at_home(keys: &[u32]) -> bool
 fn rising(keys: &[u32]) -> bool
     ensures { result ≡ true → twice keys.now ≡ false }
 {
-    let mut i: usize = 1;
-    while i < keys.len() {
+    for i in 1..keys.len() {
         if keys[i] <= keys[i - 1] {
             return false;
         }
-        i += 1;
     }
     true
 }
 
 // `has_twice` is exact. It has no code: its contract is the theorem.
+#[tactic(auto, using(crate::proofs::Twice::exact))]
 pub fn twice_is_exact()
     ensures { TwiceIsExact }
 {}

@@ -6,18 +6,15 @@ pub fn has_twice(keys: &[u32]) -> bool
     ensures { result ≡ twice keys.now }
 {
     let mut seen = [0u64; 1024];
-    let mut i: usize = 0;
-    while i < keys.len() {
-        let key = keys[i];
-        if key < 65536 {
-            let word = (key / 64) as usize;
-            let bit = key % 64;
+    for key in keys {
+        if *key < 65536 {
+            let word = (*key / 64) as usize;
+            let bit = *key % 64;
             if (seen[word] >> bit) % 2 == 1 {
                 return true;
             }
-            seen[word] = seen[word] | (1 << bit);
+            seen[word] |= 1 << bit;
         }
-        i += 1;
     }
     false
 }

@@ -11,11 +11,9 @@ pub fn at_home(keys: &[u32]) -> bool
     requires { length keys.now ≡ 33 }
     ensures { result ≡ true → twice keys.now ≡ false }
 {
-    let mut all: u32 = 4294967295;
-    let mut k: usize = 0;
-    while k < SLOTS {
-        all = all & unless_home(keys[k], k as u32);
-        k += 1;
+    let mut all = u32::MAX;
+    for (place, key) in keys.iter().enumerate() {
+        all &= unless_home(*key, place as u32);
     }
     65536 <= all
 }
@@ -24,8 +22,5 @@ pub fn at_home(keys: &[u32]) -> bool
 fn unless_home(entry: u32, place: u32) -> u32
     ensures { 65536 ≤ result → entry < 65536 → entry % 33 ≡ place }
 {
-    if entry % 33 == place {
-        return 4294967295;
-    }
-    entry
+    if entry % 33 == place { u32::MAX } else { entry }
 }

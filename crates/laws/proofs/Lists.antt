@@ -1,5 +1,5 @@
 -- Lists of numbers by place, and a loop that maps one in place. Assumes nothing.
---     map_at         what stands at a place of a mapped list; map_const, a map to one value
+--     map_at         what stands at a place of a mapped list
 --     partly-..      a loop that maps a list in place from the front: after i turns it is `partly f i s`
 --     drop_back      what a loop from the back reads next
 use mathlib.Core.Path.{◌≡◌, refl, ap, ◌∙◌}
@@ -8,7 +8,7 @@ use Prim.Native.Nat.{ℕ, zero, suc, ◌+◌, ◌-◌, ◌≤◌, ◌<◌}
 use native.Mathlib.Nat.{not-suc-le-zero, le_of_suc-le-suc}
 use native.Mathlib.Numerals.{add-one}
 use native.Mathlib.Omega.{arith}
-use lib.ListN.{length, get_or, set, drop, replicate}
+use lib.ListN.{length, get_or, set, drop}
 use lib.Seq.{drop-cons}
 
 pub map_at : (f : ℕ → ℕ) (l : List ℕ) (i : ℕ) → i < length l → get_or (map f l) i 0 ≡ f (get_or l i 0)
@@ -16,19 +16,10 @@ map_at f [] i h = absurd (not-suc-le-zero h)
 map_at f (x ∷ l) zero h = refl
 map_at f (x ∷ l) (suc i) h = map_at f l i (le_of_suc-le-suc h)
 
-pub map_const : (v : ℕ) (l : List ℕ) → map (λ (x : ℕ). v) l ≡ replicate (length l) v
-map_const v [] = refl
-map_const v (x ∷ l) = ap (λ (t : List ℕ). v ∷ t) (map_const v l)
-
 abbrev pub partly : (ℕ → ℕ) → ℕ → List ℕ → List ℕ
 partly f zero s = s
 partly f (suc i) [] = []
 partly f (suc i) (x ∷ s) = f x ∷ partly f i s
-
-pub partly_length : (f : ℕ → ℕ) (i : ℕ) (s : List ℕ) → length (partly f i s) ≡ length s
-partly_length f zero s = refl
-partly_length f (suc i) [] = refl
-partly_length f (suc i) (x ∷ s) = ap suc (partly_length f i s)
 
 -- what the next turn reads
 pub partly_at : (f : ℕ → ℕ) (i : ℕ) (s : List ℕ) → get_or (partly f i s) i 0 ≡ get_or s i 0

@@ -1,6 +1,6 @@
 -- What `new`, `dropped` and `report` answer and leave, for every input: "1, 2" for a fresh end, "1, 2, 13" by one gate for the
 -- others, then what the modules say. A call that is refused leaves everything as it was.
-use Rattle.std.specs.Prelude.{ℕ, cond, not, List, length}
+use Rattle.std.specs.Prelude.{ℕ, cond, not, List, length, Result, Ok, Err, Option, ⊤}
 use Rattle.terms.specs.Gates.{through}
 use Rattle.terms.specs.Sizes.{in_range}
 use Rattle.terms.specs.Refusals.{number_of}
@@ -14,32 +14,28 @@ use Rattle.flight.specs.Places.{count_of}
 use Rattle.flight.specs.Lost.{drop_of as lost_of}
 use Rattle.acks.specs.State.{table_of}
 use Rattle.acknowledgment.specs.Calls.{answered_by, number_kept, output_kept}
-use Rattle.acknowledgment.specs.declared.DroppedPackets.{DroppedPackets}
-use Rattle.acknowledgment.specs.declared.DroppedPackets.TheVariants.{Refused as NotDropped}
 use Rattle.ends.specs.State.{State, lending, fresh_end}
 use Rattle.ends.specs.Gate.{is_lent, gate_of}
 use Rattle.link.specs.declared.status.Status.{Status}
-use Rattle.link.specs.declared.status.Asked.{Asked}
-use Rattle.link.specs.declared.status.Asked.TheVariants.{Told, Refused as NotTold}
-use Rattle.link.specs.declared.fresh.Fresh.{Fresh}
-use Rattle.link.specs.declared.fresh.Fresh.TheVariants.{Ready, Refused as NotMade}
+use Rattle.terms.specs.declared.Refusal.{Refusal}
+use Rattle.flight.specs.declared.lost.Dropped.{Dropped}
 
 -- a fresh end: 1 and 2 alone can refuse it
-unfoldable pub new_of : Sizes → List ℕ → List ℕ → List ℕ → List ℕ → List ℕ → List ℕ → List ℕ → List ℕ → List ℕ → List ℕ → List ℕ → List ℕ → Fresh
+unfoldable pub new_of : Sizes → List ℕ → List ℕ → List ℕ → List ℕ → List ℕ → List ℕ → List ℕ → List ℕ → List ℕ → List ℕ → List ℕ → List ℕ → Result ⊤ Refusal
 new_of z received number records payloads slots entry header joined index lengths held output =
-    cond (not (in_range z)) (NotMade BadSizes)
-    (cond (not (is_lent z (lending fresh_end received number records payloads slots entry header joined index lengths held) output)) (NotMade BadStorage)
-    Ready)
+    cond (not (in_range z)) (Err BadSizes)
+    (cond (not (is_lent z (lending fresh_end received number records payloads slots entry header joined index lengths held) output)) (Err BadStorage)
+    (Ok tt))
 
 -- a table of a fresh end has no number
-abbrev pub filled : Fresh → List ℕ → List ℕ
-filled Ready table = fresh (length table)
-filled (NotMade why) table = table
+abbrev pub filled : Result ⊤ Refusal → List ℕ → List ℕ
+filled (Ok tt) table = fresh (length table)
+filled (Err why) table = table
 
 -- a packet is given up
-unfoldable pub drop_of : Sizes → State → List ℕ → DroppedPackets
+unfoldable pub drop_of : Sizes → State → List ℕ → Result (Option Dropped) Refusal
 drop_of z s output =
-    through (gate_of z s output) NotDropped
+    through (gate_of z s output) Err
     (answered_by (lost_of s.acks.counters.remote_ack_sequence_num.0 (table_of z s.acks.number) s.acks.records))
 
 abbrev pub drop_number : Sizes → State → List ℕ → List ℕ
@@ -58,14 +54,14 @@ status_of z s =
       ack_bitfield = field_of s.acks.counters.received.0 (slots_of s.acks.received);
     }
 
-unfoldable pub report_of : Sizes → State → List ℕ → Asked
-report_of z s output = through (gate_of z s output) NotTold (Told (status_of z s))
+unfoldable pub report_of : Sizes → State → List ℕ → Result Status Refusal
+report_of z s output = through (gate_of z s output) Err (Ok (status_of z s))
 
 -- 01's number for each answer, 0 where nothing is refused
-abbrev pub number_of_fresh : Fresh → ℕ
-number_of_fresh Ready = 0
-number_of_fresh (NotMade why) = number_of why
+abbrev pub number_of_fresh : Result ⊤ Refusal → ℕ
+number_of_fresh (Ok tt) = 0
+number_of_fresh (Err why) = number_of why
 
-abbrev pub number_of_asked : Asked → ℕ
-number_of_asked (Told report) = 0
-number_of_asked (NotTold why) = number_of why
+abbrev pub number_of_asked : Result Status Refusal → ℕ
+number_of_asked (Ok report) = 0
+number_of_asked (Err why) = number_of why

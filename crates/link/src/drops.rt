@@ -3,9 +3,9 @@ ghost use Rattle.std.specs.Prelude.{◌≡◌};
 ghost use Rattle.ends.specs.State.{lending};
 ghost use Rattle.link.specs.Calls.{drop_of, drop_number, drop_output};
 
-use acknowledgment::DroppedPackets;
 use ends::{End, gate};
-use terms::{Gate, Sizes};
+use flight::lost::Dropped;
+use terms::{Refusal, Sizes};
 
 // Its record comes back, and its payload at the start of the output.
 pub fn dropped(
@@ -23,27 +23,17 @@ pub fn dropped(
     lengths: &[u16],
     held: &[u8],
     output: &mut [u8],
-) -> DroppedPackets
+) -> Result<Option<Dropped>, Refusal>
     ensures value { result ≡ drop_of sizes (lending end received.now number.old records.now payloads.now slots.now entry.now header.now joined.now index.now lengths.now held.now) output.old }
     ensures number_after { number.new ≡ drop_number sizes (lending end received.now number.old records.now payloads.now slots.now entry.now header.now joined.now index.now lengths.now held.now) output.old }
     ensures output_after { output.new ≡ drop_output sizes (lending end received.now number.old records.now payloads.now slots.now entry.now header.now joined.now index.now lengths.now held.now) output.old }
 {
-    let gate = gate::check(
+    gate::check(
         sizes, end, received, number, records, payloads, slots, entry, header, joined, index,
         lengths, held, output,
-    );
-    if let Gate::Shut(why) = gate {
-        return DroppedPackets::Refused(why);
-    }
+    )?;
     let n = sizes.packets_in_flight;
     let remote = end.acks.remote_ack_sequence_num;
     let room = 16 * sizes.fragment_size;
-    acknowledgment::answered(flight::lost::drop_one(
-        &mut number[..n],
-        records,
-        payloads,
-        room,
-        remote,
-        output,
-    ))
+    Ok(flight::lost::drop_one(&mut number[..n], records, payloads, room, remote, output))
 }

@@ -1,22 +1,15 @@
 // A fresh end.
-ghost use Rattle.std.specs.Prelude.{◌≡◌};
+ghost use Rattle.std.specs.Prelude.{◌≡◌, Err};
 ghost use Rattle.ends.specs.State.{fresh_end};
-ghost use Rattle.link.specs.declared.fresh.Fresh.TheVariants.{Refused};
 ghost use Rattle.link.specs.Calls.{new_of, filled};
 
 use ends::{End, gate};
 use terms::{Refusal, Sizes};
 
 #[derive(Clone, Copy)]
-pub enum Fresh {
-    Ready,
-    Refused(Refusal),
-}
-
-#[derive(Clone, Copy)]
 pub struct Begun {
     pub end: End,
-    pub answer: Fresh,
+    pub answer: Result<(), Refusal>,
 }
 
 // What is lent is made the storage of a fresh end: nothing received, in flight or put together, and no streams. 1 and 2 alone can
@@ -53,15 +46,15 @@ pub fn new(
     }
     Begun {
         end: ends::new(received, number, slots),
-        answer: Fresh::Ready,
+        answer: Ok(()),
     }
 }
 
 fn refused(why: Refusal) -> Begun
-    ensures { result ≡ record { end = fresh_end; answer = Refused why } }
+    ensures { result ≡ record { end = fresh_end; answer = Err why } }
 {
     Begun {
         end: ends::fresh(),
-        answer: Fresh::Refused(why),
+        answer: Err(why),
     }
 }

@@ -5,7 +5,7 @@ ghost use Rattle.link.specs.Calls.{report_of};
 
 use ends::{End, gate};
 use serial::PacketNumber;
-use terms::{Gate, Refusal, Sizes};
+use terms::{Refusal, Sizes};
 
 #[derive(Clone, Copy)]
 pub struct Status {
@@ -15,12 +15,6 @@ pub struct Status {
     // The newest number received, as it is told, and which of the 32 before it have come.
     pub remote_sequence_num: PacketNumber,
     pub ack_bitfield: u32,
-}
-
-#[derive(Clone, Copy)]
-pub enum Asked {
-    Told(Status),
-    Refused(Refusal),
 }
 
 pub fn report(
@@ -38,23 +32,19 @@ pub fn report(
     lengths: &[u16],
     held: &[u8],
     output: &[u8],
-) -> Asked
+) -> Result<Status, Refusal>
     ensures { result ≡ report_of sizes (lending end received.now number.now records.now payloads.now slots.now entry.now header.now joined.now index.now lengths.now held.now) output.now }
 {
-    let checked = gate::look(
+    let seen = gate::look(
         sizes, end, received, number, records, payloads, slots, entry, header, joined, index,
         lengths, held, output,
-    );
-    let gate = checked.gate;
-    if let Gate::Shut(why) = gate {
-        return Asked::Refused(why);
-    }
+    )?;
     let acks = end.acks;
     let local_sequence_num = acks.sequence_number;
-    Asked::Told(Status {
+    Ok(Status {
         packets_in_flight: flight::places::count(&number[..sizes.packets_in_flight]),
         local_sequence_num,
         remote_sequence_num: acks.remote_sequence_num(),
-        ack_bitfield: received::ack_bitfield(acks.received, received, checked.lapped),
+        ack_bitfield: received::ack_bitfield(acks.received, received, seen.lapped),
     })
 }

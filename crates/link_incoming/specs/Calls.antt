@@ -1,13 +1,11 @@
 -- What a datagram that has come, and a take, answer and leave, for every input: "1, 2, 13" by one gate, then what the modules say.
 -- A call that the gate refuses leaves everything as it was.
-use Rattle.std.specs.Prelude.{ℕ, ◌≡◌, List}
+use Rattle.std.specs.Prelude.{ℕ, ◌≡◌, List, Result, Err, Option}
 use Rattle.terms.specs.Gates.{through}
 use Rattle.terms.specs.declared.Sizes.{Sizes}
 use Rattle.terms.specs.declared.Refusal.{Refusal}
 use Rattle.ordering_plan.specs.State.{written}
 use Rattle.ordering.specs.Take.{taken_out}
-use Rattle.ordering.specs.declared.Taken.{Taken}
-use Rattle.ordering.specs.declared.Taken.TheVariants.{Refused as NotTaken}
 use Rattle.arranging_plan.specs.Ids.{place_of}
 use Rattle.arranging_plan.specs.Ordered.{state_at, next_on, taken_on}
 use Rattle.ends.specs.State.{State, Leaves}
@@ -21,14 +19,14 @@ receive_of z s d output = through (gate_of z s output) (λ (why : Refusal). rece
 
 -- the item that is expected on an ordered stream is taken
 pub record Taking : Type 0 where
-  pub answer : Taken
+  pub answer : Result (Option ℕ) Refusal
   pub end : State
   pub output : List ℕ
 
-abbrev pub ordered_as : State → Taken → ℕ → ℕ → State
+abbrev pub ordered_as : State → Result (Option ℕ) Refusal → ℕ → ℕ → State
 ordered_as s t f id = record { acks = s.acks; parts = s.parts; ordered = taken_on t f id s.ordered; sequenced = s.sequenced }
 
-abbrev pub taken_by : Taken → ℕ → State → ℕ → List ℕ → Taking
+abbrev pub taken_by : Result (Option ℕ) Refusal → ℕ → State → ℕ → List ℕ → Taking
 taken_by t f s id output =
     record {
       answer = t;
@@ -38,7 +36,7 @@ taken_by t f s id output =
 
 unfoldable pub take_of : Sizes → State → ℕ → List ℕ → Taking
 take_of z s id output =
-    through (gate_of z s output) (λ (why : Refusal). record { answer = NotTaken why; end = s; output = output })
+    through (gate_of z s output) (λ (why : Refusal). record { answer = Err why; end = s; output = output })
     (taken_by (next_on z.fragment_size s.ordered id) z.fragment_size s id output)
 
 pub record Takes (t : Taking) (r : Took) (received number records payloads slots entry header joined index lengths held output : List ℕ) : Type 0 where

@@ -5,7 +5,7 @@ ghost use Rattle.link_incoming.specs.Calls.{receive_of};
 
 use ends::{End, gate};
 use receiving::Received;
-use terms::{Gate, Sizes};
+use terms::Sizes;
 
 pub fn receive(
     sizes: Sizes,
@@ -27,30 +27,15 @@ pub fn receive(
     ensures { Receives (receive_of sizes (lending end received.old number.old records.now payloads.now slots.old entry.old header.old joined.old index.old lengths.old held.old) datagram.now output.old)
         result received.new number.new records.now payloads.now slots.new entry.new header.new joined.new index.new lengths.new held.new output.new }
 {
-    let checked = gate::look(
+    let seen = match gate::look(
         sizes, end, received, number, records, payloads, slots, entry, header, joined, index,
         lengths, held, output,
-    );
-    let gate = checked.gate;
-    if let Gate::Shut(why) = gate {
-        return receiving::refused(end, why);
-    }
+    ) {
+        Ok(seen) => seen,
+        Err(why) => return receiving::refused(end, why),
+    };
     receiving::receive(
-        sizes,
-        end,
-        received,
-        number,
-        records,
-        payloads,
-        slots,
-        entry,
-        header,
-        joined,
-        index,
-        lengths,
-        held,
-        datagram,
-        output,
-        checked.home,
+        sizes, end, received, number, records, payloads, slots, entry, header, joined, index,
+        lengths, held, datagram, output, seen.home,
     )
 }

@@ -6,13 +6,12 @@ ghost use Rattle.link_incoming.specs.Calls.{take_of, Takes};
 use arranging::ordered;
 use arranging::ordered::AfterTake;
 use ends::{End, gate};
-use ordering::Taken;
-use terms::{Gate, Sizes};
+use terms::{Refusal, Sizes};
 
 #[derive(Clone, Copy)]
 pub struct Took {
     pub end: End,
-    pub answer: Taken,
+    pub answer: Result<Option<usize>, Refusal>,
 }
 
 pub fn take(
@@ -35,14 +34,13 @@ pub fn take(
     ensures { Takes (take_of sizes (lending end received.now number.now records.now payloads.now slots.now entry.now header.now joined.now index.old lengths.old held.old) stream output.old)
         result received.now number.now records.now payloads.now slots.now entry.now header.now joined.now index.new lengths.new held.new output.new }
 {
-    let gate = gate::check(
+    if let Err(why) = gate::check(
         sizes, end, received, number, records, payloads, slots, entry, header, joined, index,
         lengths, held, output,
-    );
-    if let Gate::Shut(why) = gate {
+    ) {
         return Took {
             end,
-            answer: Taken::Refused(why),
+            answer: Err(why),
         };
     }
     let after = ordered::take_next(
@@ -61,18 +59,11 @@ pub fn take(
 fn left_by(end: End, after: AfterTake) -> Took
     ensures { result ≡ record { end = record { acks = end.acks; reassembly = end.reassembly; ordering = after.streams; sequencing = end.sequencing }; answer = after.answer } }
 {
-    let answer = after.answer;
-    let acks = end.acks;
-    let reassembly = end.reassembly;
-    let ordering = after.streams;
-    let sequencing = end.sequencing;
     Took {
         end: End {
-            acks,
-            reassembly,
-            ordering,
-            sequencing,
+            ordering: after.streams,
+            ..end
         },
-        answer,
+        answer: after.answer,
     }
 }

@@ -6,15 +6,13 @@ use mathlib.Core.List.{List}
 use native.Mathlib.Omega.{arith}
 use lib.Dec.{ltb, leb, eqb}
 use lib.ListN.{length, take, drop}
+use Rattle.std.specs.Prelude.{Result, Ok, Err, Option, None, Some}
 use Rattle.laws.specs.Bits.{bit}
 use Rattle.laws.proofs.Cases.{case}
 use Rattle.serial.specs.Order.{back}
 use Rattle.terms.specs.Refusals.{number_of}
 use Rattle.terms.specs.declared.Sizes.{Sizes}
-use Rattle.terms.specs.declared.Gate.TheVariants.{Open}
 use Rattle.flight.specs.Lost.{drop_of as lost_of}
-use Rattle.flight.specs.declared.lost.Drop.{Drop}
-use Rattle.flight.specs.declared.lost.Drop.TheVariants.{Nothing as NoDrop, Packet as OneDrop}
 use Rattle.acks.specs.State.{table_of}
 use Rattle.acknowledgment.specs.Calls.{answered_by, number_of_dropped}
 use Rattle.splitter.specs.Split.{needed}
@@ -26,21 +24,19 @@ use Rattle.packet_table.specs.declared.Headers.{Headers}
 use Rattle.packet_table.specs.declared.PacketType.{PacketType}
 use Rattle.packet_table.specs.declared.PacketType.TheVariants.{Packet, Fragment, Heartbeat}
 use Rattle.packet_table.specs.declared.OrderingGuarantee.{OrderingGuarantee}
-use Rattle.packet_table.specs.declared.OrderingGuarantee.TheVariants.{None, Sequenced as InSequence, Ordered as InOrder}
-use Rattle.packet.specs.declared.Read.{Read}
-use Rattle.packet.specs.declared.Read.TheVariants.{Found, Refused as Unread}
+use Rattle.packet_table.specs.declared.OrderingGuarantee.TheVariants.{None as NoOrder, Sequenced as InSequence, Ordered as InOrder}
 use Rattle.reassembly_plan.specs.Plan.{slot_of, known, found, judged, passed, plan_of as plan_part}
 use Rattle.reassembly.specs.Effects.{complete, joined_answer, answer_of}
 use Rattle.reassembly_plan.specs.declared.words.Entry.{Entry}
 use Rattle.reassembly_plan.specs.declared.plan.Fragment.{Fragment as FragmentOf}
 use Rattle.reassembly_plan.specs.declared.plan.Plan.{Plan as PartPlan}
-use Rattle.reassembly_plan.specs.declared.plan.Plan.TheVariants.{Refuse as RefusePart, Make, Join}
+use Rattle.reassembly_plan.specs.declared.plan.Plan.TheVariants.{Make, Join}
 use Rattle.ordering_plan.specs.State.{place_of as held_place}
 use Rattle.ordering_plan.specs.Arrange.{plan_of as item_plan, number_of_arranged}
 use Rattle.ordering.specs.Take.{next_place, next_of, number_of_taken}
 use Rattle.ordering_plan.specs.declared.OrderingStream.{OrderingStream}
 use Rattle.ordering_plan.specs.declared.Arranged.{Arranged}
-use Rattle.ordering_plan.specs.declared.Arranged.TheVariants.{Out, Held, Old, Refused}
+use Rattle.ordering_plan.specs.declared.Arranged.TheVariants.{Out, Held, Old}
 use Rattle.sequencing.specs.Sequence.{sequence_of}
 use Rattle.sequencing.specs.declared.Sequenced.{Sequenced as Sequence}
 use Rattle.sequencing.specs.declared.Sequenced.TheVariants.{Out as Newest, Dropped}
@@ -64,6 +60,9 @@ use Rattle.link_outgoing.specs.Calls.{send_of, resend_of, fragment_of}
 use Rattle.link.specs.Calls.{drop_of, report_of}
 use Rattle.link_laws.specs.Calls.{Call, receives, takes, sends, resends, writes, drops, asks, lent_to, number_of_call}
 use Rattle.link_laws.specs.Never.{Other}
+use Rattle.terms.specs.declared.Refusal.{Refusal}
+use Rattle.packet.specs.declared.Found.{Found}
+use Rattle.flight.specs.declared.lost.Dropped.{Dropped as Given}
 
 nothing : Other 0
 nothing = (λ e. omega arith, λ e. omega arith, λ e. omega arith)
@@ -72,9 +71,9 @@ later : (n : ℕ) → 3 ≤ n → n ≤ 12 → Other n
 later n a b = (λ e. omega arith, λ e. omega arith, λ e. omega arith)
 
 -- 3 and 4 where a datagram is read
-number_of_read : Read → ℕ
-number_of_read (Found h at) = 0
-number_of_read (Unread why) = number_of why
+number_of_read : Result Found Refusal → ℕ
+number_of_read (Ok r) = 0
+number_of_read (Err why) = number_of why
 
 read : (v : ℕ) (d : List ℕ) → Other (number_of_read (read_of v d))
 unfolding read_of following_read number_of_read
@@ -103,20 +102,20 @@ planned s index id i =
     case (eqb (place_of s.known id) 4) (λ a. rw a (later 7 (omega arith) (omega arith)))
     (λ a. rw a (item (stream_at s (place_of s.known id)) (part index (place_of s.known id * 64) 64) i))
 
-in_order : (p : Planned) (a : Arranged) (it : ReceivedItem) → p.plan ≡ a → Other (number_of_arranged a) → Other (number_of_answer (told (ordered_as a p) it))
-in_order p Out it q h = rw q nothing
-in_order p (Held k) it q h = rw q nothing
-in_order p Old it q h = rw q nothing
-in_order p (Refused why) it q h = h
+in_order : (p : Planned) (a : Result Arranged Refusal) (it : ReceivedItem) → p.plan ≡ a → Other (number_of_arranged a) → Other (number_of_answer (told (ordered_as a p) it))
+in_order p (Ok Out) it q h = nothing
+in_order p (Ok (Held k)) it q h = nothing
+in_order p (Ok Old) it q h = nothing
+in_order p (Err why) it q h = h
 
-in_sequence : (a : Sequence) (it : ReceivedItem) → Other (number_of_answer (sequenced_told a it))
+in_sequence : (a : Sequence) (it : ReceivedItem) → Other (number_of_answer (Ok (sequenced_told a it)))
 in_sequence Newest it = nothing
 in_sequence Dropped it = nothing
 
 module _ (h : Headers) (s : State) (it : ReceivedItem) where
   packet : (o : OrderingGuarantee) → Other (number_of_answer (told (plan_by o h.arranging s.ordered.counters s.ordered.index s.sequenced) it))
   unfolding sequenced_plan
-  packet None = nothing
+  packet NoOrder = nothing
   packet InSequence =
       case (eqb (place_of s.sequenced.known h.arranging.stream) 4) (λ a. rw a (later 7 (omega arith) (omega arith)))
       (λ a. rw a (in_sequence (sequence_of (sequenced_at s.sequenced (place_of s.sequenced.known h.arranging.stream)) h.arranging.index.0) it))
@@ -125,10 +124,10 @@ module _ (h : Headers) (s : State) (it : ReceivedItem) where
       in_order p p.plan it refl (planned s.ordered.counters s.ordered.index h.arranging.stream h.arranging.index.0)
 
 -- 8 to 12 of a fragment
-number_of_plan : PartPlan → ℕ
-number_of_plan (RefusePart why) = number_of why
-number_of_plan Make = 0
-number_of_plan (Join j) = 0
+number_of_plan : Result PartPlan Refusal → ℕ
+number_of_plan (Err why) = number_of why
+number_of_plan (Ok Make) = 0
+number_of_plan (Ok (Join j)) = 0
 
 entry : (there : Bool) (e : Entry) (g : FragmentOf) (len : ℕ) → Other (number_of_plan (judged there e g len))
 unfolding judged number_of_plan
@@ -147,11 +146,11 @@ part_plan_lem num slots entries g len =
     case (passed (known slots g) num slots g.number.0) (λ a. rw a (later 9 (omega arith) (omega arith)))
     (λ a. rw a (entry (known slots g) (found (known slots g) entries (slot_of slots g) g.count) g len))
 
-fragment : (plan : PartPlan) (k : ℕ) (header : List ℕ) → Other (number_of_plan plan) → Other (number_of_answer (told_part (answer_of plan k header)))
+fragment : (plan : Result PartPlan Refusal) (k : ℕ) (header : List ℕ) → Other (number_of_plan plan) → Other (number_of_answer (told_part (answer_of plan k header)))
 unfolding answer_of joined_answer number_of_plan
-fragment (RefusePart why) k header h = h
-fragment Make k header h = later 8 (omega arith) (omega arith)
-fragment (Join j) k header h =
+fragment (Err why) k header h = h
+fragment (Ok Make) k header h = later 8 (omega arith) (omega arith)
+fragment (Ok (Join j)) k header h =
     case (complete j.entry)
     (λ a. case (bit j.entry.ids 0) (λ b. rw (a, b) nothing) (λ b. rw (a, b) (later 12 (omega arith) (omega arith))))
     (λ a. rw a nothing)
@@ -166,12 +165,12 @@ module _ (z : Sizes) (s : State) (d output : List ℕ) where
       (part_plan_lem s.parts.num (take z.reassembly_slots s.parts.slots) s.parts.entry (part_of h) (length payload))
   by_type_lem Heartbeat h payload = nothing
 
-  by_read : (t : Read) → Other (number_of_read t) → Other (number_of_answer (read_as t z s d output).answer)
+  by_read : (t : Result Found Refusal) → Other (number_of_read t) → Other (number_of_answer (read_as t z s d output).answer)
   unfolding number_of_read
-  by_read (Unread why) q = q
-  by_read (Found h at) q =
-      case (ltb z.fragment_size (length d - at)) (λ a. rw a (later 5 (omega arith) (omega arith)))
-      (λ a. rw a (by_type_lem h.standard.packet_type h (drop at d)))
+  by_read (Err why) q = q
+  by_read (Ok r) q =
+      case (ltb z.fragment_size (length d - r.at)) (λ a. rw a (later 5 (omega arith) (omega arith)))
+      (λ a. rw a (by_type_lem r.headers.standard.packet_type r.headers (drop r.at d)))
 
   received : Other (number_of_answer (received_of z s d output).answer)
   unfolding received_of
@@ -204,11 +203,11 @@ sent z s i payload output =
     (λ f. rw (a, b, c, d, f) nothing)))))
     (λ a. rw a (later 4 (omega arith) (omega arith)))
 
-lost : (d : Drop) → Other (number_of_dropped (answered_by d))
-lost NoDrop = nothing
-lost (OneDrop d) = nothing
+lost : (d : Option Given) → Other (number_of_dropped (answered_by d))
+lost None = nothing
+lost (Some d) = nothing
 
-pub through_open : (z : Sizes) (s : State) (c : Call) → gate_of z s (lent_to c) ≡ Open → Other (number_of_call z s c)
+pub through_open : (z : Sizes) (s : State) (c : Call) → gate_of z s (lent_to c) ≡ Ok tt → Other (number_of_call z s c)
 unfolding number_of_call receive_of take_of send_of resend_of fragment_of drop_of report_of further_of
 through_open z s (receives d output) g = rw g (received z s d output)
 through_open z s (takes id output) g = rw g (next z.fragment_size s.ordered id)

@@ -6,10 +6,10 @@ use mathlib.Core.List.{List}
 use native.Mathlib.Omega.{arith}
 use lib.ListN.{length, get_or, take, length-replicate}
 use borrow.Author.Tests.{le-ltb}
+use Rattle.std.specs.Prelude.{Ok}
 use Rattle.laws.proofs.Cases.{each}
 use Rattle.terms.specs.Sizes.{in_range}
 use Rattle.terms.specs.declared.Sizes.{Sizes}
-use Rattle.terms.specs.declared.Gate.TheVariants.{Open}
 use Rattle.terms.proofs.Ranges.{in_range_means}
 use Rattle.sequence_buffer.specs.Buffer.{none, fresh}
 use Rattle.acks.specs.Gate.{lent}
@@ -91,7 +91,7 @@ module _ (z : Sizes) (s : State) (r : in_range z ≡ true) (k : Kept z s) (outpu
   unfolding is_sound
   stays_safe = rw (good_sound z s.acks k.acks, table_sound z s.parts k.parts, k.ordered.whole.state, k.sequenced.ids.state)
 
-  pub stays_open : gate_of z s output ≡ Open
+  pub stays_open : gate_of z s output ≡ Ok tt
   stays_open = opens z s output r stays_lent stays_safe
 
 -- a fresh end, with its tables written out

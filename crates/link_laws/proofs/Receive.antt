@@ -8,6 +8,7 @@ use native.Mathlib.Omega.{arith}
 use lib.Dec.{ltb, eqb}
 use lib.ListN.{length, take, drop, length-set, length-drop}
 use borrow.Author.Tests.{eqb-false, ltb-false, le-ltb}
+use Rattle.std.specs.Prelude.{Result, Ok, Err, Option, Some, None}
 use Rattle.laws.proofs.Cases.{case}
 use Rattle.terms.specs.Sizes.{in_range}
 use Rattle.terms.specs.declared.Sizes.{Sizes}
@@ -21,9 +22,7 @@ use Rattle.packet_table.specs.declared.PacketType.TheVariants.{Packet, Fragment,
 use Rattle.packet_table.specs.declared.DeliveryGuarantee.{DeliveryGuarantee}
 use Rattle.packet_table.specs.declared.DeliveryGuarantee.TheVariants.{Unreliable, Reliable}
 use Rattle.packet_table.specs.declared.OrderingGuarantee.{OrderingGuarantee}
-use Rattle.packet_table.specs.declared.OrderingGuarantee.TheVariants.{None, Sequenced as InSequence, Ordered as InOrder}
-use Rattle.packet.specs.declared.Read.{Read}
-use Rattle.packet.specs.declared.Read.TheVariants.{Found, Refused as Unread}
+use Rattle.packet_table.specs.declared.OrderingGuarantee.TheVariants.{None as NoOrder, Sequenced as InSequence, Ordered as InOrder}
 use Rattle.packet_laws.proofs.Theorems.{accepts}
 use Rattle.reassembly_plan.specs.Plan.{slot_of}
 use Rattle.reassembly.specs.Effects.{State as Parts, performed, header_after, bytes_after, room_of}
@@ -31,14 +30,12 @@ use Rattle.reassembly_plan.specs.Gate.{gate_of as parts_gate}
 use Rattle.reassembly.specs.Call.{decided, handled, stated, restored}
 use Rattle.reassembly_plan.specs.declared.plan.Fragment.{Fragment as FragmentOf}
 use Rattle.reassembly_plan.specs.declared.plan.Plan.{Plan as PartPlan}
-use Rattle.reassembly_plan.specs.declared.plan.Plan.TheVariants.{Refuse as RefusePart, Make, Join}
-use Rattle.reassembly.specs.declared.effects.Answer.{Answer as PartAnswer}
-use Rattle.reassembly.specs.declared.effects.Answer.TheVariants.{Waiting, Whole as IsWhole, Refused as NotJoined}
+use Rattle.reassembly_plan.specs.declared.plan.Plan.TheVariants.{Make, Join}
 use Rattle.fragmenter.proofs.Keeping.{Keeps, kept_call}
 use Rattle.ordering_plan.specs.State.{fresh as fresh_ordered}
 use Rattle.ordering_plan.specs.Arrange.{plan_of as item_plan, arranged}
 use Rattle.ordering_plan.specs.declared.Arranged.{Arranged}
-use Rattle.ordering_plan.specs.declared.Arranged.TheVariants.{Out, Held, Old, Refused}
+use Rattle.ordering_plan.specs.declared.Arranged.TheVariants.{Out, Held, Old}
 use Rattle.sequencing.specs.Sequence.{fresh as fresh_sequenced, sequence_of, topped}
 use Rattle.sequencing.specs.declared.Sequenced.{Sequenced as Sequence}
 use Rattle.sequencing.specs.declared.Sequenced.TheVariants.{Out as Newest, Dropped}
@@ -59,6 +56,9 @@ use Rattle.receiving_fragments.specs.Fragments.{part_of, part_plan, parts_after,
 use Rattle.receiving.specs.Receive.{hearing, packet_as, packet_of, by_type, read_as, received_of}
 use Rattle.link_laws.proofs.Lists.{set_each, paste_long}
 use Rattle.link_laws.proofs.Kept.{KeptParts, OrderedItem, KeptOrdered, SequencedItem, KeptSequenced, Kept, table_sound, parts_long}
+use Rattle.terms.specs.declared.Refusal.{Refusal}
+use Rattle.packet.specs.declared.Found.{Found}
+use Rattle.reassembly.specs.declared.effects.Message.{Message}
 
 -- streams: each place has a next identifier of 16 bits, made or not
 pub ordered_item : (f : ℕ) (s : States) → KeptOrdered f s → (j : ℕ) → OrderedItem (stream_at s.counters j)
@@ -84,13 +84,13 @@ module _ (f : ℕ) (s : States) (k : KeptOrdered f s) (id : ℕ) (h : place_of s
   abbrev J : ℕ
   J = place_of s.counters.known id
 
-  arranged_item : (a : Arranged) (i : ℕ) (payload : List ℕ) → OrderedItem (arranged a f i payload (state_at f s J)).stream
-  arranged_item Out i payload = ordered_item f s k J
-  arranged_item (Held at) i payload = ordered_item f s k J
-  arranged_item Old i payload = ordered_item f s k J
-  arranged_item (Refused why) i payload = ordered_item f s k J
+  arranged_item : (a : Result Arranged Refusal) (i : ℕ) (payload : List ℕ) → OrderedItem (arranged a f i payload (state_at f s J)).stream
+  arranged_item (Ok Out) i payload = ordered_item f s k J
+  arranged_item (Ok (Held at)) i payload = ordered_item f s k J
+  arranged_item (Ok Old) i payload = ordered_item f s k J
+  arranged_item (Err why) i payload = ordered_item f s k J
 
-  pub kept_arranged : (a : Arranged) (i : ℕ) (payload : List ℕ) → length payload ≤ f
+  pub kept_arranged : (a : Result Arranged Refusal) (i : ℕ) (payload : List ℕ) → length payload ≤ f
       → item_plan (stream_at s.counters J) (part s.index (J * 64) 64) i ≡ a
       → KeptOrdered f (stored_at f s J id (arranged a f i payload (state_at f s J)))
   kept_arranged a i payload fits e =
@@ -126,17 +126,17 @@ module _ (z : Sizes) (h : Headers) (payload : List ℕ) (s : State) (output : Li
   abbrev I : ℕ
   I = h.arranging.stream
 
-  in_order : (a : Arranged) → item_plan (stream_at s.ordered.counters (place_of s.ordered.counters.known I)) (part s.ordered.index (place_of s.ordered.counters.known I * 64) 64) h.arranging.index.0 ≡ a
+  in_order : (a : Result Arranged Refusal) → item_plan (stream_at s.ordered.counters (place_of s.ordered.counters.known I)) (part s.ordered.index (place_of s.ordered.counters.known I * 64) 64) h.arranging.index.0 ≡ a
       → place_of s.ordered.counters.known I < 4
       → Kept z (packet_as (ordered_as a (record { at = place_of s.ordered.counters.known I; plan = a })) z h payload s output).end
-  in_order Out e free = record { acks = heard_good h.standard.delivery; parts = k.parts; ordered = kept_arranged F s.ordered k.ordered I free Out h.arranging.index.0 payload short e; sequenced = k.sequenced }
-  in_order (Held at) e free = record { acks = heard_good h.standard.delivery; parts = k.parts; ordered = kept_arranged F s.ordered k.ordered I free (Held at) h.arranging.index.0 payload short e; sequenced = k.sequenced }
-  in_order Old e free = record { acks = heard_good h.standard.delivery; parts = k.parts; ordered = kept_arranged F s.ordered k.ordered I free Old h.arranging.index.0 payload short e; sequenced = k.sequenced }
-  in_order (Refused why) e free = k
+  in_order (Ok Out) e free = record { acks = heard_good h.standard.delivery; parts = k.parts; ordered = kept_arranged F s.ordered k.ordered I free (Ok Out) h.arranging.index.0 payload short e; sequenced = k.sequenced }
+  in_order (Ok (Held at)) e free = record { acks = heard_good h.standard.delivery; parts = k.parts; ordered = kept_arranged F s.ordered k.ordered I free (Ok (Held at)) h.arranging.index.0 payload short e; sequenced = k.sequenced }
+  in_order (Ok Old) e free = record { acks = heard_good h.standard.delivery; parts = k.parts; ordered = kept_arranged F s.ordered k.ordered I free (Ok Old) h.arranging.index.0 payload short e; sequenced = k.sequenced }
+  in_order (Err why) e free = k
 
   by_ordering : (o : OrderingGuarantee) → Kept z (packet_as (plan_by o h.arranging s.ordered.counters s.ordered.index s.sequenced) z h payload s output).end
   unfolding sequenced_plan plan_on
-  by_ordering None = record { acks = heard_good h.standard.delivery; parts = k.parts; ordered = k.ordered; sequenced = k.sequenced }
+  by_ordering NoOrder = record { acks = heard_good h.standard.delivery; parts = k.parts; ordered = k.ordered; sequenced = k.sequenced }
   by_ordering InSequence =
       case (eqb (place_of s.sequenced.known I) 4) (λ e. rw e k)
       (λ e.
@@ -162,24 +162,24 @@ module _ (z : Sizes) (h : Headers) (payload : List ℕ) (p : Parts) (r : in_rang
   unfolding decided parts_gate
   decided_is = rw (r, parts_long z p k output wide, table_sound z p k, le-ltb z.fragment_size (length payload) short)
 
-  joined_table : (plan : PartPlan) → decided z p output (part_of h) (length payload) ≡ plan
+  joined_table : (plan : Result PartPlan Refusal) → decided z p output (part_of h) (length payload) ≡ plan
       → Keeps z (restored z.reassembly_slots p (performed plan z.fragment_size (part_of h) payload (stated z.reassembly_slots p)))
   unfolding handled
   joined_table plan e =
       rw (sym e)
       (kept_call z p (record { fragment = part_of h; payload = payload; output = output; number_fits = number; count_fits = count }) k.table)
 
-  header_long : (plan : PartPlan) (g : FragmentOf) (at : ℕ) → z.reassembly_slots ≤ length (header_after plan g at p.header)
+  header_long : (plan : Result PartPlan Refusal) (g : FragmentOf) (at : ℕ) → z.reassembly_slots ≤ length (header_after plan g at p.header)
   unfolding header_after
-  header_long (RefusePart why) g at = k.headers
-  header_long Make g at = k.headers
-  header_long (Join j) g at = case (eqb g.id 0) (λ e. rw (e, length-set p.header at _) k.headers) (λ e. rw e k.headers)
+  header_long (Err why) g at = k.headers
+  header_long (Ok Make) g at = k.headers
+  header_long (Ok (Join j)) g at = case (eqb g.id 0) (λ e. rw (e, length-set p.header at _) k.headers) (λ e. rw e k.headers)
 
-  bytes_long : (plan : PartPlan) (at : ℕ) → z.reassembly_slots * (16 * z.fragment_size) ≤ length (bytes_after plan at payload p.bytes)
+  bytes_long : (plan : Result PartPlan Refusal) (at : ℕ) → z.reassembly_slots * (16 * z.fragment_size) ≤ length (bytes_after plan at payload p.bytes)
   unfolding bytes_after
-  bytes_long (RefusePart why) at = k.room
-  bytes_long Make at = k.room
-  bytes_long (Join j) at = le_trans k.room (paste_long p.bytes (at + j.at) payload)
+  bytes_long (Err why) at = k.room
+  bytes_long (Ok Make) at = k.room
+  bytes_long (Ok (Join j)) at = le_trans k.room (paste_long p.bytes (at + j.at) payload)
 
   pub kept_joined : KeptParts z (parts_after z h payload p)
   unfolding performed
@@ -190,10 +190,10 @@ module _ (z : Sizes) (h : Headers) (payload : List ℕ) (p : Parts) (r : in_rang
         room = bytes_long (part_plan z p h (length payload)) (room_of z.fragment_size (slot_of (take z.reassembly_slots p.slots) (part_of h)));
       }
 
-heard_whole : (z : Sizes) (a : Acks) → in_range z ≡ true → Good z a → (t : PartAnswer) → Good z (hearing (acks_at_whole t z a.counters a.received a.number) a)
-heard_whole z a r g Waiting = g
-heard_whole z a r g (IsWhole m) = good-come z a r g m.header.number.0 m.header.acked.0 m.header.field
-heard_whole z a r g (NotJoined why) = g
+heard_whole : (z : Sizes) (a : Acks) → in_range z ≡ true → Good z a → (t : Result (Option Message) Refusal) → Good z (hearing (acks_at_whole t z a.counters a.received a.number) a)
+heard_whole z a r g (Ok None) = g
+heard_whole z a r g (Ok (Some m)) = good-come z a r g m.header.number.0 m.header.acked.0 m.header.field
+heard_whole z a r g (Err why) = g
 
 -- a datagram, once the gate is open
 module _ (z : Sizes) (s : State) (d output : List ℕ) (r : in_range z ≡ true) (k : Kept z s) (bytes : Bytes d) (wide : 16 * z.fragment_size + 17 ≤ length output) where
@@ -209,13 +209,13 @@ module _ (z : Sizes) (s : State) (d output : List ℕ) (r : in_range z ≡ true)
       }
   by_type_lem Heartbeat h payload short number count = k
 
-  by_read : (t : Read) → read_of z.version d ≡ t → Kept z (read_as t z s d output).end
-  by_read (Unread why) e = k
-  by_read (Found h at) e =
-      let fits = (accepts.only z.version d h at bytes e).fits in
-      case (ltb z.fragment_size (length d - at))
+  by_read : (t : Result Found Refusal) → read_of z.version d ≡ t → Kept z (read_as t z s d output).end
+  by_read (Err why) e = k
+  by_read (Ok r) e =
+      let fits = (accepts.only z.version d r.headers r.at bytes e).fits in
+      case (ltb z.fragment_size (length d - r.at))
       (λ q. rw q k)
-      (λ q. rw q (by_type_lem h.standard.packet_type h (drop at d) (rw (length-drop at d) (ltb-false z.fragment_size (length d - at) q)) fits.fragment_number fits.count))
+      (λ q. rw q (by_type_lem r.headers.standard.packet_type r.headers (drop r.at d) (rw (length-drop r.at d) (ltb-false z.fragment_size (length d - r.at) q)) fits.fragment_number fits.count))
 
   pub kept_received : Kept z (received_of z s d output).end
   unfolding received_of

@@ -6,17 +6,14 @@ use mathlib.Core.List.{List, [], ◌∷◌}
 use native.Mathlib.Omega.{arith}
 use lib.Dec.{leb}
 use lib.ListN.{length, get_or, length-replicate}
+use Rattle.std.specs.Prelude.{Result, Ok, Err, Option, Some, None, ⊤}
 use Rattle.laws.proofs.Cases.{case}
 use Rattle.serial.specs.declared.ItemId.{ItemId}
 use Rattle.terms.specs.Sizes.{in_range}
 use Rattle.terms.specs.declared.Sizes.{Sizes}
-use Rattle.terms.specs.declared.Gate.{Gate}
-use Rattle.terms.specs.declared.Gate.TheVariants.{Open, Shut}
 use Rattle.sequence_buffer.specs.Buffer.{none, fresh}
 use Rattle.flight.specs.declared.SentPacket.{SentPacket}
 use Rattle.acks.specs.Gate.{lent, flight_lent}
-use Rattle.acknowledgment.specs.declared.DroppedPackets.{DroppedPackets}
-use Rattle.acknowledgment.specs.declared.DroppedPackets.TheVariants.{Nothing as NoDrop, Packet as OneDrop, Refused as NotDropped}
 use Rattle.acknowledgment_laws.specs.Runs.{Typed}
 use Rattle.acknowledgment_laws.proofs.Unbroken.{good_drop}
 use Rattle.packet_table.specs.Numbers.{Bytes}
@@ -24,8 +21,6 @@ use Rattle.packet_table.specs.declared.DeliveryGuarantee.{DeliveryGuarantee}
 use Rattle.packet_table.specs.declared.OrderingGuarantee.{OrderingGuarantee}
 use Rattle.reassembly_plan.specs.Gate.{too_short as parts_too_short}
 use Rattle.ordering_plan.specs.State.{fresh as fresh_ordered}
-use Rattle.ordering.specs.declared.Taken.{Taken}
-use Rattle.ordering.specs.declared.Taken.TheVariants.{Item, Nothing, Refused as NotTaken}
 use Rattle.arranging_plan.specs.Ids.{place_of}
 use Rattle.arranging_plan.specs.Ordered.{States, next_on, taken_on}
 use Rattle.arranging_laws.proofs.Theorems.{stays_sound}
@@ -43,13 +38,15 @@ use Rattle.link_laws.proofs.Kept.{OrderedItem, KeptOrdered, Kept, stays_open, ke
 use Rattle.link_laws.proofs.Receive.{ordered_item, kept_received}
 use Rattle.link_laws.proofs.Send.{Narrow, kept_transmitted}
 use Rattle.link_laws.proofs.Answers.{through_open}
+use Rattle.terms.specs.declared.Refusal.{Refusal}
+use Rattle.flight.specs.declared.lost.Dropped.{Dropped}
 
 -- the item that is expected on an ordered stream is taken
-taken_items : (f : ℕ) (s : States) (k : KeptOrdered f s) (id : ℕ) (t : Taken) (m : ℕ) → OrderedItem (get_or (taken_on t f id s).counters.streams m fresh_ordered)
-taken_items f s k id (Item n) =
+taken_items : (f : ℕ) (s : States) (k : KeptOrdered f s) (id : ℕ) (t : Result (Option ℕ) Refusal) (m : ℕ) → OrderedItem (get_or (taken_on t f id s).counters.streams m fresh_ordered)
+taken_items f s k id (Ok (Some n)) =
     set_each OrderedItem fresh_ordered s.counters.streams (place_of s.counters.known id) _ (ordered_item f s k (place_of s.counters.known id)) k.items
-taken_items f s k id Nothing = k.items
-taken_items f s k id (NotTaken why) = k.items
+taken_items f s k id (Ok None) = k.items
+taken_items f s k id (Err why) = k.items
 
 pub next_narrow : Narrow Next
 next_narrow item e = absurd (let z : ◌≡◌ {A = ℕ} 0 1 = cc in omega arith)
@@ -62,17 +59,17 @@ module _ (z : Sizes) (s : State) (r : in_range z ≡ true) (k : Kept z s) where
   unfolding receive_of
   kept_receives d output bytes = go (gate_of z s output) refl
     where
-      go : (g : Gate) → gate_of z s output ≡ g → Kept z (receive_of z s d output).end
-      go (Shut why) e = rw e k
-      go Open e = rw e (kept_received z s d output r k bytes (opened z s output e).output_room)
+      go : (g : Result ⊤ Refusal) → gate_of z s output ≡ g → Kept z (receive_of z s d output).end
+      go (Err why) e = rw e k
+      go (Ok tt) e = rw e (kept_received z s d output r k bytes (opened z s output e).output_room)
 
   pub kept_takes : (id : ℕ) (output : List ℕ) → Kept z (take_of z s id output).end
   unfolding take_of
   kept_takes id output = go (gate_of z s output) refl
     where
-      go : (g : Gate) → gate_of z s output ≡ g → Kept z (take_of z s id output).end
-      go (Shut why) e = rw e k
-      go Open e =
+      go : (g : Result ⊤ Refusal) → gate_of z s output ≡ g → Kept z (take_of z s id output).end
+      go (Err why) e = rw e k
+      go (Ok tt) e =
           rw e
           (record {
             acks = k.acks;
@@ -89,27 +86,27 @@ module _ (z : Sizes) (s : State) (r : in_range z ≡ true) (k : Kept z s) where
   unfolding send_of
   kept_sends delivery ordering stream payload output byte = go (gate_of z s output) refl
     where
-      go : (g : Gate) → gate_of z s output ≡ g → Kept z (send_of z s delivery ordering stream payload output).end
-      go (Shut why) e = rw e k
-      go Open e = rw e (kept_transmitted z s (record { delivery = delivery; ordering = ordering; stream = stream; identifier = Next }) payload output r k byte next_narrow)
+      go : (g : Result ⊤ Refusal) → gate_of z s output ≡ g → Kept z (send_of z s delivery ordering stream payload output).end
+      go (Err why) e = rw e k
+      go (Ok tt) e = rw e (kept_transmitted z s (record { delivery = delivery; ordering = ordering; stream = stream; identifier = Next }) payload output r k byte next_narrow)
 
   pub kept_resends : (sent : SentPacket) (payload output : List ℕ) → Typed sent → Kept z (resend_of z s sent payload output).end
   unfolding resend_of
   kept_resends sent payload output t = go (gate_of z s output) refl
     where
-      go : (g : Gate) → gate_of z s output ≡ g → Kept z (resend_of z s sent payload output).end
-      go (Shut why) e = rw e k
-      go Open e =
+      go : (g : Result ⊤ Refusal) → gate_of z s output ≡ g → Kept z (resend_of z s sent payload output).end
+      go (Err why) e = rw e k
+      go (Ok tt) e =
           case (leb 3 sent.ordering) (λ q. rw (e, q) k)
           (λ q. rw (e, q) (kept_transmitted z s (item_again sent) payload output r k t.stream_byte (again_narrow sent.item t.item_word)))
 
   pub kept_drops : (output : List ℕ) → Kept z (dropped z s output)
   kept_drops output = go (drop_of z s output) refl
     where
-      go : (a : DroppedPackets) → drop_of z s output ≡ a → Kept z (dropped z s output)
-      go NoDrop e = rw e k
-      go (OneDrop d) e = rw e (record { acks = good_drop z s.acks r k.acks d; parts = k.parts; ordered = k.ordered; sequenced = k.sequenced })
-      go (NotDropped why) e = rw e k
+      go : (a : Result (Option Dropped) Refusal) → drop_of z s output ≡ a → Kept z (dropped z s output)
+      go (Ok None) e = rw e k
+      go (Ok (Some d)) e = rw e (record { acks = good_drop z s.acks r k.acks d; parts = k.parts; ordered = k.ordered; sequenced = k.sequenced })
+      go (Err why) e = rw e k
 
 kept_after : (z : Sizes) (s : State) (calls : List Call) → in_range z ≡ true → AllTyped calls → Kept z s → Kept z (after z s calls)
 unfolding after called
@@ -160,7 +157,7 @@ module _ (z : Sizes) (s : State) (first : List ℕ) (calls : List Call) (new : N
   kept_calls : Kept z (after z s calls)
   kept_calls = kept_after z s calls new.sizes t (kept_new z s first new)
 
-  open_after : (output : List ℕ) → 16 * z.fragment_size + 17 ≤ length output → gate_of z (after z s calls) output ≡ Open
+  open_after : (output : List ℕ) → 16 * z.fragment_size + 17 ≤ length output → gate_of z (after z s calls) output ≡ Ok tt
   open_after output h = stays_open z (after z s calls) new.sizes kept_calls output h
 
 pub unbroken : NeverBroken

@@ -1,8 +1,7 @@
 -- Document 01: "From a fresh end whose sizes, state and storage go from call to call unaltered, 13 never arises." Nor do 1 and 2.
-use Rattle.std.specs.Prelude.{ℕ, ◌+◌, ◌*◌, ◌≤◌, ◌≡◌, true, List, length}
+use Rattle.std.specs.Prelude.{ℕ, ◌+◌, ◌*◌, ◌≤◌, ◌≡◌, true, List, length, Ok}
 use Rattle.terms.specs.Sizes.{in_range}
 use Rattle.terms.specs.declared.Sizes.{Sizes}
-use Rattle.terms.specs.declared.Gate.TheVariants.{Open}
 use Rattle.sequence_buffer.specs.Buffer.{fresh}
 use Rattle.ends.specs.State.{State, lending, counters_of, fresh_end}
 use Rattle.ends.specs.Gate.{is_lent, gate_of}
@@ -39,7 +38,7 @@ pub record NeverBroken : Type 0 where
       → New z s first
       → AllTyped calls
       → 16 * z.fragment_size + 17 ≤ length output
-      → gate_of z (after z s calls) output ≡ Open
+      → gate_of z (after z s calls) output ≡ Ok tt
   -- and answers none of 1, 2 and 13
   pub never : (z : Sizes) (s : State) (first : List ℕ) (calls : List Call) (call : Call)
       → New z s first

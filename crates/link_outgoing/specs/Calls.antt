@@ -1,6 +1,6 @@
 -- What a send, a resend and a further fragment answer and leave, for every input: "1, 2, 13" by one gate, then what the modules
 -- say. A call that the gate refuses leaves everything as it was.
-use Rattle.std.specs.Prelude.{ℕ, cond, List, leb}
+use Rattle.std.specs.Prelude.{ℕ, cond, List, leb, Result, Err, Option}
 use Rattle.terms.specs.Gates.{through}
 use Rattle.terms.specs.declared.Sizes.{Sizes}
 use Rattle.terms.specs.declared.Refusal.{Refusal}
@@ -16,13 +16,10 @@ use Rattle.sending.specs.Send.{Step as Sent, transmitted_of}
 use Rattle.datagrams.specs.Further.{further_of, further_output}
 use Rattle.datagrams.specs.declared.Item.{Item}
 use Rattle.datagrams.specs.declared.Identifier.TheVariants.{Next, Again}
-use Rattle.sending.specs.declared.Answer.TheVariants.{Refused as NotSent}
-use Rattle.datagrams.specs.declared.further.Further.{Further}
-use Rattle.datagrams.specs.declared.further.Further.TheVariants.{Refused as NotWritten}
 
 -- an item is sent, or sent again
 abbrev pub send_refused : Refusal → State → List ℕ → Sent
-send_refused why s output = record { answer = NotSent why; end = s; output = output }
+send_refused why s output = record { answer = Err why; end = s; output = output }
 
 abbrev pub item_next : DeliveryGuarantee → OrderingGuarantee → ℕ → Item
 item_next delivery ordering stream = record { delivery = delivery; ordering = ordering; stream = stream; identifier = Next }
@@ -44,9 +41,9 @@ resend_of z s sent payload output =
     (cond (leb 3 sent.ordering) (send_refused BadHeader s output) (transmitted_of z s (item_again sent) payload output))
 
 -- a further fragment of a packet in flight
-unfoldable pub fragment_of : Sizes → State → ℕ → ℕ → List ℕ → Further
+unfoldable pub fragment_of : Sizes → State → ℕ → ℕ → List ℕ → Result (Option ℕ) Refusal
 fragment_of z s n j output =
-    through (gate_of z s output) NotWritten
+    through (gate_of z s output) Err
     (further_of z s.acks.counters s.acks.received s.acks.number s.acks.bytes n j)
 
 unfoldable pub fragment_output : Sizes → State → ℕ → ℕ → List ℕ → List ℕ

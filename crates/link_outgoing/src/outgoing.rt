@@ -1,18 +1,17 @@
 // An item is sent, or sent again, and the further fragments of one that is in flight.
-ghost use Rattle.std.specs.Prelude.{◌≡◌};
+ghost use Rattle.std.specs.Prelude.{◌≡◌, Err};
+ghost use Rattle.packet_table.specs.Table.{ordering_of};
 ghost use Rattle.ends.specs.State.{lending};
 ghost use Rattle.sending.specs.Send.{Sends};
-ghost use Rattle.sending.specs.declared.Answer.TheVariants.{Refused};
 ghost use Rattle.link_outgoing.specs.Calls.{item_next, send_of, item_again, resend_of, fragment_of, fragment_output};
 
-use datagrams::further::Further;
 use datagrams::{Identifier, Item};
 use ends::{End, gate};
 use flight::SentPacket;
-use packet::{DeliveryGuarantee, OrderingGuarantee, table};
-use sending::{Answer, Sent};
+use packet::{DeliveryGuarantee, OrderingGuarantee};
+use sending::Sent;
 use serial::PacketNumber;
-use terms::{Gate, Refusal, Sizes};
+use terms::{Refusal, Sizes};
 
 // The datagram goes to the start of the output: the item's only one, or its fragment 0.
 pub fn send(
@@ -38,14 +37,13 @@ pub fn send(
     ensures { Sends (send_of sizes (lending end received.now number.old records.old payloads.old slots.now entry.now header.now joined.now index.now lengths.now held.now) delivery ordering stream payload.now output.old)
         result received.now number.new records.new payloads.new slots.now entry.now header.now joined.now index.now lengths.now held.now output.new }
 {
-    let checked = gate::look(
+    let seen = match gate::look(
         sizes, end, received, number, records, payloads, slots, entry, header, joined, index,
         lengths, held, output,
-    );
-    let gate = checked.gate;
-    if let Gate::Shut(why) = gate {
-        return refused(end, why);
-    }
+    ) {
+        Ok(seen) => seen,
+        Err(why) => return refused(end, why),
+    };
     sending::transmit(
         sizes,
         end,
@@ -63,8 +61,8 @@ pub fn send(
         item_next(delivery, ordering, stream),
         payload,
         output,
-        checked.home,
-        checked.lapped,
+        seen.home,
+        seen.lapped,
     )
 }
 
@@ -90,17 +88,17 @@ pub fn resend(
     ensures { Sends (resend_of sizes (lending end received.now number.old records.old payloads.old slots.now entry.now header.now joined.now index.now lengths.now held.now) sent payload.now output.old)
         result received.now number.new records.new payloads.new slots.now entry.now header.now joined.now index.now lengths.now held.now output.new }
 {
-    let checked = gate::look(
+    let seen = match gate::look(
         sizes, end, received, number, records, payloads, slots, entry, header, joined, index,
         lengths, held, output,
-    );
-    let gate = checked.gate;
-    if let Gate::Shut(why) = gate {
-        return refused(end, why);
-    }
-    if 3 <= sent.ordering {
-        return refused(end, Refusal::BadHeader);
-    }
+    ) {
+        Ok(seen) => seen,
+        Err(why) => return refused(end, why),
+    };
+    let ordering = match OrderingGuarantee::try_from(sent.ordering) {
+        Ok(ordering) => ordering,
+        Err(why) => return refused(end, why),
+    };
     sending::transmit(
         sizes,
         end,
@@ -115,11 +113,11 @@ pub fn resend(
         index,
         lengths,
         held,
-        item_again(sent),
+        item_again(sent, ordering),
         payload,
         output,
-        checked.home,
-        checked.lapped,
+        seen.home,
+        seen.lapped,
     )
 }
 
@@ -134,24 +132,25 @@ fn item_next(delivery: DeliveryGuarantee, ordering: OrderingGuarantee, stream: u
     }
 }
 
-fn item_again(sent: SentPacket) -> Item
+fn item_again(sent: SentPacket, ordering: OrderingGuarantee) -> Item
+    requires { ordering ≡ ordering_of sent.ordering }
     ensures { result ≡ item_again sent }
 {
     let item = sent.item;
     Item {
         delivery: DeliveryGuarantee::Reliable,
-        ordering: table::ordering_of(sent.ordering),
+        ordering,
         stream: sent.stream,
         identifier: Identifier::Again(item),
     }
 }
 
 fn refused(end: End, why: Refusal) -> Sent
-    ensures { result ≡ record { end = end; answer = Refused why } }
+    ensures { result ≡ record { end = end; answer = Err why } }
 {
     Sent {
         end,
-        answer: Answer::Refused(why),
+        answer: Err(why),
     }
 }
 
@@ -173,18 +172,14 @@ pub fn fragment(
     packet: PacketNumber,
     j: usize,
     output: &mut [u8],
-) -> Further
+) -> Result<Option<usize>, Refusal>
     ensures value { result ≡ fragment_of sizes (lending end received.now number.now records.now payloads.now slots.now entry.now header.now joined.now index.now lengths.now held.now) packet.0 j output.old }
     ensures output_after { output.new ≡ fragment_output sizes (lending end received.now number.now records.now payloads.now slots.now entry.now header.now joined.now index.now lengths.now held.now) packet.0 j output.old }
 {
-    let checked = gate::look(
+    let seen = gate::look(
         sizes, end, received, number, records, payloads, slots, entry, header, joined, index,
         lengths, held, output,
-    );
-    let gate = checked.gate;
-    if let Gate::Shut(why) = gate {
-        return Further::Refused(why);
-    }
+    )?;
     datagrams::further::fragment(
         sizes,
         end,
@@ -202,7 +197,7 @@ pub fn fragment(
         packet,
         j,
         output,
-        checked.home,
-        checked.lapped,
+        seen.home,
+        seen.lapped,
     )
 }

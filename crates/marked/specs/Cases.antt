@@ -1,11 +1,9 @@
 -- Document 01, "Marked cases": "Proved together, as a single statement over a list of cases".
-use Rattle.std.specs.Prelude.{ℕ, zero, suc, ◌+◌, Bool, true, false, cond, ◌&&◌, List, [], ◌∷◌, ◌++◌, map, ltb, eqb, length, take, replicate}
+use Rattle.std.specs.Prelude.{ℕ, zero, suc, ◌+◌, Bool, true, false, cond, ◌&&◌, List, [], ◌∷◌, ◌++◌, map, ltb, eqb, length, take, replicate, Result, Ok, Err, Option, Some, None}
 use Rattle.std.specs.Bool.{beq}
 use Rattle.terms.specs.declared.Sizes.{Sizes}
 use Rattle.terms.specs.Refusals.{number_of}
 use Rattle.serial.specs.Order.{greater}
-use Rattle.sequence_buffer.specs.declared.Insertion.{Insertion}
-use Rattle.sequence_buffer.specs.declared.Insertion.TheVariants.{TooOld, At}
 use Rattle.sequence_buffer.specs.Buffer.{fresh, emptied, inserted}
 use Rattle.sequence_buffer.specs.Facts.{Buffer, insert, called, new}
 use Rattle.received.specs.Record.{slot_count}
@@ -13,24 +11,21 @@ use Rattle.received.specs.Field.{field_of}
 use Rattle.flight.specs.Entry.{word_of, numbers_in}
 use Rattle.flight.specs.Acked.{is_told}
 use Rattle.flight.specs.Lost.{drop_of, number_left}
-use Rattle.flight.specs.declared.lost.Drop.{Drop}
-use Rattle.flight.specs.declared.lost.Drop.TheVariants.{Nothing, Packet}
 use Rattle.splitter.specs.Split.{pieces, split_of}
-use Rattle.splitter.specs.declared.Split.{Split}
-use Rattle.splitter.specs.declared.Split.TheVariants.{Pieces, Refused as NotSplit}
 use Rattle.reassembly.specs.Effects.{State, answer_of, output_after}
 use Rattle.reassembly.specs.Call.{decided, handled}
 use Rattle.reassembly_plan.specs.declared.plan.Fragment.{Fragment}
-use Rattle.reassembly.specs.declared.effects.Answer.{Answer}
-use Rattle.reassembly.specs.declared.effects.Answer.TheVariants.{Waiting, Whole, Refused}
 use Rattle.ordering_plan.specs.State.{fresh as fresh_stream}
 use Rattle.ordering_plan.specs.Arrange.{plan_of}
 use Rattle.ordering_plan.specs.declared.Arranged.{Arranged}
-use Rattle.ordering_plan.specs.declared.Arranged.TheVariants.{Out, Held, Old, Refused as NotArranged}
+use Rattle.ordering_plan.specs.declared.Arranged.TheVariants.{Out, Held, Old}
 use Rattle.sequencing.specs.Sequence.{fresh as fresh_sequence, sequence_of, topped}
 use Rattle.sequencing.specs.declared.SequencingStream.{SequencingStream}
 use Rattle.sequencing.specs.declared.Sequenced.{Sequenced}
 use Rattle.sequencing.specs.declared.Sequenced.TheVariants.{Out as SequencedOut, Dropped}
+use Rattle.terms.specs.declared.Refusal.{Refusal}
+use Rattle.reassembly.specs.declared.effects.Message.{Message}
+use Rattle.flight.specs.declared.lost.Dropped.{Dropped as Given}
 
 pub data Case : Type 0 where
   -- a comes after b: yes or no
@@ -57,9 +52,9 @@ pub data Case : Type 0 where
   -- or is refused by this number
   joins_not : ℕ → ℕ × List ℕ → List (ℕ × List ℕ) → ℕ → Case
 
-unfoldable pub accepted : Insertion → Bool
-accepted TooOld = false
-accepted (At slot) = true
+unfoldable pub accepted : Option ℕ → Bool
+accepted None = false
+accepted (Some slot) = true
 
 -- the n numbers from m on
 unfoldable pub from : ℕ → ℕ → List ℕ
@@ -90,9 +85,9 @@ abbrev pub flying : List ℕ → List ℕ
 flying ns = map (λ n. word_of n 0) ns
 
 -- what is dropped, one a call, in so many calls
-unfoldable pub dropped_first : Drop → List ℕ → (List ℕ → List ℕ) → List ℕ
-dropped_first Nothing number later = []
-dropped_first (Packet d) number later = d.number.0 ∷ later (number_left (Packet d) number)
+unfoldable pub dropped_first : Option Given → List ℕ → (List ℕ → List ℕ) → List ℕ
+dropped_first None number later = []
+dropped_first (Some d) number later = d.number.0 ∷ later (number_left (Some d) number)
 
 unfoldable pub dropped : ℕ → ℕ → List ℕ → List ℕ
 dropped zero remote number = []
@@ -102,21 +97,21 @@ dropped (suc calls) remote number = dropped_first (drop_of remote number []) num
 abbrev pub sizes : ℕ → ℕ → Sizes
 sizes f m = record { fragment_size = f; reassembly_slots = 1; max_fragments = m; packets_in_flight = 1; version = 0 }
 
-unfoldable pub split_number : Split → ℕ
-split_number (Pieces n) = 0
-split_number (NotSplit why) = number_of why
+unfoldable pub split_number : Result ℕ Refusal → ℕ
+split_number (Ok n) = 0
+split_number (Err why) = number_of why
 
-unfoldable pub is_held : Arranged → Bool
-is_held Out = false
-is_held (Held k) = true
-is_held Old = false
-is_held (NotArranged why) = false
+unfoldable pub is_held : Result Arranged Refusal → Bool
+is_held (Ok Out) = false
+is_held (Ok (Held k)) = true
+is_held (Ok Old) = false
+is_held (Err why) = false
 
-unfoldable pub is_past : Arranged → Bool
-is_past Out = false
-is_past (Held k) = false
-is_past Old = true
-is_past (NotArranged why) = false
+unfoldable pub is_past : Result Arranged Refusal → Bool
+is_past (Ok Out) = false
+is_past (Ok (Held k)) = false
+is_past (Ok Old) = true
+is_past (Err why) = false
 
 unfoldable pub goes_out : Sequenced → Bool
 goes_out SequencedOut = true
@@ -143,10 +138,10 @@ abbrev pub output : List ℕ
 output = replicate 33 0
 
 -- an answer as the message or the number of the refusal
-unfoldable pub told : Answer → List ℕ → List ℕ
-told Waiting out = []
-told (Whole m) out = take m.length out
-told (Refused why) out = number_of why ∷ []
+unfoldable pub told : Result (Option Message) Refusal → List ℕ → List ℕ
+told (Ok None) out = []
+told (Ok (Some m)) out = take m.length out
+told (Err why) out = number_of why ∷ []
 
 -- what the last of these fragments is answered
 unfoldable pub joined : ℕ → State → ℕ × List ℕ → List (ℕ × List ℕ) → List ℕ

@@ -2,30 +2,20 @@
 --     place_end, place_room     the 64 places lie within 64 * f bytes
 --     copied_in                 a copy into the rest of a buffer
 --     copied_out                a copy of a part of a buffer
---     move_step                 a turn of a copy downwards
 --     paste_own                 a copy of what is there already
 use Prim.Native.Nat.{ℕ, ◌+◌, ◌-◌, ◌*◌, ◌≤◌, ◌<◌}
 use mathlib.Core.Path.{◌≡◌, refl, sym}
 use mathlib.Core.List.{List, [], ◌++◌, append_assoc, append-nil}
-use native.Mathlib.Nat.{le_of_lt, mul-le-mul_right, suc-mul, add-sub_cancel_left}
-use native.Mathlib.Numerals.{add-one}
+use native.Mathlib.Nat.{mul-le-mul_right, suc-mul, add-sub_cancel_left}
 use native.Mathlib.Omega.{arith}
-use Rattle.laws.proofs.Paste.{paste_after}
-use lib.ListN.{length, get_or, take, drop, set, length-drop, drop_of_length-le, take-append-drop}
-use lib.Seq.{length-take-le, take-length, drop-drop, get_or-drop, paste, paste-suc}
+use lib.ListN.{length, take, drop, length-drop, drop_of_length-le, take-append-drop}
+use lib.Seq.{length-take-le, take-length, drop-drop, paste}
 
 pub place_end : (k f : ℕ) → k < 64 → k * f + f ≤ 64 * f
 place_end k f h = rw suc-mul at (mul-le-mul_right f h)
 
 pub place_room : (k f l n : ℕ) → k < 64 → l ≤ f → 64 * f ≤ n → k * f + l ≤ n
 place_room k f l n h q p = omega (arith, place_end k f h)
-
-pub move_step : (d : List ℕ) (from to j : ℕ) → to ≤ from → from + j < length d
-    → set (paste d to (drop from d) j) (to + j) (get_or (paste d to (drop from d) j) (from + j) 0) ≡ paste d to (drop from d) (j + 1)
-move_step d from to j h k =
-    let room : j < length (drop from d) = rw (length-drop from d) (omega arith) in
-    rw (paste_after d to (drop from d) j (from + j) (omega arith) (le_of_lt room) (omega arith), ← (get_or-drop from d j 0), add-one)
-    (paste-suc d to (drop from d) j 0 (omega arith) room)
 
 pub paste_own : (d : List ℕ) (at n : ℕ) → d ≡ paste d at (drop at d) n
 paste_own d at n =

@@ -9,31 +9,22 @@ ghost use Rattle.ordering.specs.Calls.{Arranges, Takes};
 
 use ordering_plan::{gate, plan};
 use serial::ItemId;
-use terms::{Gate, Refusal, Sizes};
+use terms::{Refusal, Sizes};
 
 pub mod doing;
 pub mod taking;
 
 pub use ordering_plan::{Arranged, NewItem, OrderingStream};
 
-// What a take found.
-#[derive(Clone, Copy)]
-pub enum Taken {
-    // An item of so many bytes, at the start of the output.
-    Item(usize),
-    Nothing,
-    Refused(Refusal),
-}
-
 #[derive(Clone, Copy)]
 pub struct AfterArrange {
-    pub answer: Arranged,
+    pub answer: Result<Arranged, Refusal>,
     pub stream: OrderingStream,
 }
 
 #[derive(Clone, Copy)]
 pub struct AfterTake {
-    pub answer: Taken,
+    pub answer: Result<Option<usize>, Refusal>,
     pub stream: OrderingStream,
 }
 
@@ -50,17 +41,16 @@ pub fn arrange(
 ) -> AfterArrange
     ensures { Arranges sizes (lending stream index.old lengths.old bytes.old) item.0 payload.now output.old result index.new lengths.new bytes.new output.new }
 {
-    let gate = gate::check(sizes, stream, index, lengths, bytes, output);
-    if let Gate::Shut(why) = gate {
+    if let Err(why) = gate::check(sizes, stream, index, lengths, bytes, output) {
         return AfterArrange {
-            answer: Arranged::Refused(why),
+            answer: Err(why),
             stream,
         };
     }
     let f = sizes.fragment_size;
     if f < payload.len() {
         return AfterArrange {
-            answer: Arranged::Refused(Refusal::TooLong),
+            answer: Err(Refusal::TooLong),
             stream,
         };
     }
@@ -83,10 +73,9 @@ pub fn take(
 ) -> AfterTake
     ensures { Takes sizes (lending stream index.old lengths.old bytes.old) output.old result index.new lengths.new bytes.new output.new }
 {
-    let gate = gate::check(sizes, stream, index, lengths, bytes, output);
-    if let Gate::Shut(why) = gate {
+    if let Err(why) = gate::check(sizes, stream, index, lengths, bytes, output) {
         return AfterTake {
-            answer: Taken::Refused(why),
+            answer: Err(why),
             stream,
         };
     }

@@ -5,7 +5,7 @@ ghost use Rattle.ordering_plan.specs.State.{lending};
 ghost use Rattle.ordering.specs.Take.{TakesNext, shrunk};
 ghost use Rattle.ordering_plan.specs.Room.{Room};
 
-use crate::{AfterTake, Taken};
+use crate::AfterTake;
 use ordering_plan::OrderingStream;
 
 // The item goes to the output, and the last held one takes its place. For the crates above: requires a sound stream and an
@@ -23,13 +23,12 @@ pub fn take_next(
 {
     let held = stream.held;
     let expected = stream.expected_index;
-    let k = keys::find(&index[..held], expected.0);
-    if held <= k {
+    let Some(k) = keys::find(&index[..held], expected.0) else {
         return AfterTake {
-            answer: Taken::Nothing,
+            answer: Ok(None),
             stream,
         };
-    }
+    };
     let n = lengths[k] as usize;
     let at = k * f;
     copying::copy(&bytes[at..at + n], output);
@@ -40,7 +39,7 @@ pub fn take_next(
     index[k] = last_index;
     lengths[k] = last_length;
     AfterTake {
-        answer: Taken::Item(n),
+        answer: Ok(Some(n)),
         stream: shrink(stream),
     }
 }
@@ -51,13 +50,8 @@ fn move_down(bytes: &mut [u8], from: usize, to: usize, n: usize)
     requires { (to ≤ from) × (from + n ≤ length bytes.old) }
     ensures { bytes.new ≡ paste bytes.old to (drop from bytes.old) n }
 {
-    if to == from {
-        return;
-    }
-    let mut j: usize = 0;
-    while j < n {
-        bytes[to + j] = bytes[from + j];
-        j += 1;
+    if to != from {
+        bytes.copy_within(from..from + n, to);
     }
 }
 
@@ -66,11 +60,10 @@ fn shrink(stream: OrderingStream) -> OrderingStream
     requires { 1 ≤ stream.held }
     ensures { result ≡ shrunk stream }
 {
-    let expected = stream.expected_index;
-    let next_item = stream.next_item;
+    let expected_index = stream.expected_index.successor();
     OrderingStream {
-        expected_index: expected.successor(),
+        expected_index,
         held: stream.held - 1,
-        next_item,
+        ..stream
     }
 }

@@ -10,6 +10,7 @@ use borrow.Author.Tests.{eqb-true, eqb-false, ltb-false}
 use lib.Dec.{eqb, ltb}
 use lib.ListN.{length, take}
 use lib.Seq.{length-take-le}
+use Rattle.std.specs.Prelude.{Ok, Err}
 use Rattle.laws.proofs.Cases.{lt_or_le}
 use Rattle.serial.specs.Order.{back}
 use Rattle.terms.specs.declared.Refusal.TheVariants.{Full}
@@ -18,7 +19,7 @@ use Rattle.keys.proofs.First.{first_le}
 use Rattle.ordering_plan.specs.State.{place_of}
 use Rattle.ordering_plan.specs.Arrange.{plan_of}
 use Rattle.ordering_plan.specs.declared.OrderingStream.{OrderingStream}
-use Rattle.ordering_plan.specs.declared.Arranged.TheVariants.{Out, Held, Old, Refused}
+use Rattle.ordering_plan.specs.declared.Arranged.TheVariants.{Out, Held, Old}
 use Rattle.ordering_plan.proofs.Planned.{plan_full}
 use Rattle.ordering_laws.specs.Full.{others, FullIsExact}
 
@@ -53,14 +54,14 @@ others_all i (x ∷ xs) h = go (eqb x i) (others_all i xs) h
     go true r q = absurd (not-suc-le-zero q)
     go false r q = ap suc (r (omega arith))
 
-full_tells : (s : OrderingStream) (index : List ℕ) (i : ℕ) → plan_of s index i ≡ Refused Full
+full_tells : (s : OrderingStream) (index : List ℕ) (i : ℕ) → plan_of s index i ≡ Err Full
     → (1 ≤ back i s.expected_index.0) × (back i s.expected_index.0 ≤ 32768) × (place_of s index i ≡ 64)
 unfolding plan_of
 full_tells s index i =
     go (eqb (back i s.expected_index.0) 0) (ltb 32768 (back i s.expected_index.0)) (eqb (place_of s index i) 64) refl refl refl
   where
     go : (a b g : Bool) → eqb (back i s.expected_index.0) 0 ≡ a → ltb 32768 (back i s.expected_index.0) ≡ b → eqb (place_of s index i) 64 ≡ g
-        → cond a Out (cond b Old (cond g (Refused Full) (Held (place_of s index i)))) ≡ Refused Full
+        → cond a (Ok Out) (cond b (Ok Old) (cond g (Err Full) (Ok (Held (place_of s index i))))) ≡ Err Full
         → (1 ≤ back i s.expected_index.0) × (back i s.expected_index.0 ≤ 32768) × (place_of s index i ≡ 64)
     go true b g p q r e = absurd (let z : ◌≡◌ {A = ℕ} 0 1 = cc in omega arith)
     go false true g p q r e = absurd (let z : ◌≡◌ {A = ℕ} 0 1 = cc in omega arith)

@@ -4,7 +4,6 @@
 --     same_held                 two streams that hold the same at an index
 use Prim.Native.Nat.{ℕ, ◌≤◌, ◌<◌}
 use mathlib.Core.Path.{◌≡◌, sym, ap, ◌∙◌}
-use mathlib.Core.Option.{none, some}
 use mathlib.Core.Logic.{◌⊎◌, inl, inr, ⊎_elim}
 use native.Mathlib.Nat.{lt_irrefl, lt_of_lt_of_le}
 use native.Mathlib.Omega.{arith}
@@ -12,6 +11,7 @@ use borrow.Author.Tests.{eqb-true, eqb-false, le-ltb, lt-ltb}
 use lib.Dec.{eqb}
 use lib.ListN.{length, get_or, take}
 use lib.Seq.{length-take-le, get_or-take}
+use Rattle.std.specs.Prelude.{Some, None}
 use Rattle.laws.proofs.Cases.{case, lt_or_le}
 use Rattle.keys.proofs.First.{first_at, first_min}
 use Rattle.ordering_plan.specs.State.{State, place_of}
@@ -35,11 +35,11 @@ module _ (f : ℕ) (s : State) (g : Good f s) where
       let here : get_or s.index (place_of s.stream s.index x) 0 ≡ x = place_at x (omega arith) in
       g.once (place_of s.stream s.index x) k (omega arith) h (omega arith) (here ∙ sym e)
 
-  pub at_found : (x k : ℕ) → x < 65536 → k < s.stream.held → get_or s.index k 0 ≡ x → held_at f s x ≡ some (bytes_at f s k)
+  pub at_found : (x k : ℕ) → x < 65536 → k < s.stream.held → get_or s.index k 0 ≡ x → held_at f s x ≡ Some (bytes_at f s k)
   unfolding held_at
   at_found x k small h e = rw (place_of_lem x k small h e, lt-ltb k s.stream.held h)
 
-  pub at_absent : (x : ℕ) → ((k : ℕ) → k < s.stream.held → get_or s.index k 0 ≡ x → ⊥) → held_at f s x ≡ none
+  pub at_absent : (x : ℕ) → ((k : ℕ) → k < s.stream.held → get_or s.index k 0 ≡ x → ⊥) → held_at f s x ≡ None
   unfolding held_at
   at_absent x away =
       ⊎_elim (λ h. absurd (away (place_of s.stream s.index x) h (place_at x h)))
@@ -63,6 +63,6 @@ module _ (f : ℕ) (s s' : State) (g : Good f s) (g' : Good f s') where
       ⊎_elim
       (λ h.
       let w = there h.0 h.1 h.2 in
-      at_found f s' g' x w.0 small w.1 w.2 ∙ ap some w.3 ∙ sym (at_found f s g x h.0 small h.1 h.2))
+      at_found f s' g' x w.0 small w.1 w.2 ∙ ap Some w.3 ∙ sym (at_found f s g x h.0 small h.1 h.2))
       (λ h. at_absent f s' g' x (gone h) ∙ sym (at_absent f s g x h))
       (found? f s g x small)

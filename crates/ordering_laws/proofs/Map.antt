@@ -2,17 +2,16 @@
 use Prim.Native.Nat.{ℕ, ◌<◌}
 use mathlib.Core.Path.{◌≡◌, refl, sym, ◌∙◌}
 use mathlib.Core.List.{List}
-use mathlib.Core.Option.{none}
 use mathlib.Core.Logic.{⊎_elim}
 use native.Mathlib.Omega.{arith}
 use borrow.Author.Tests.{le-ltb, lt-ltb}
 use lib.ListN.{get_or}
+use Rattle.std.specs.Prelude.{Ok, Some, None}
 use Rattle.laws.proofs.Cases.{lt_or_le}
 use Rattle.ordering_plan.specs.State.{State}
 use Rattle.ordering_plan.specs.Arrange.{arranged}
 use Rattle.ordering.specs.Take.{next_place, next_of, taken_out}
 use Rattle.ordering_plan.specs.declared.Arranged.TheVariants.{Out}
-use Rattle.ordering.specs.declared.Taken.TheVariants.{Item, Nothing}
 use Rattle.ordering_plan.proofs.Planned.{held_place}
 use Rattle.ordering.proofs.Next.{next_none, next_item}
 use Rattle.ordering_laws.specs.Held.{held_at, Good, HeldIsAMap}
@@ -20,24 +19,24 @@ use Rattle.ordering_laws.proofs.Put.{put_found, put_other}
 use Rattle.ordering_laws.proofs.Removed.{left_here, left_other}
 
 -- where an item is found it is held, with the length that is told
-pub found_there : (s : State) (n : ℕ) → next_of s ≡ Item n → (next_place s < s.stream.held) × (get_or s.lengths (next_place s) 0 ≡ n)
+pub found_there : (s : State) (n : ℕ) → next_of s ≡ Ok (Some n) → (next_place s < s.stream.held) × (get_or s.lengths (next_place s) 0 ≡ n)
 found_there s n e =
-    ⊎_elim (λ h. let w : Item (get_or s.lengths (next_place s) 0) ≡ Item n = sym (next_item s (next_place s) refl h) ∙ e in (h, cc))
-    (λ h. absurd (let w : Nothing ≡ Item n = sym (next_none s (next_place s) refl h) ∙ e in let z : ◌≡◌ {A = ℕ} 0 1 = cc in omega arith))
+    ⊎_elim (λ h. let w : Ok (Some (get_or s.lengths (next_place s) 0)) ≡ Ok (Some n) = sym (next_item s (next_place s) refl h) ∙ e in (h, cc))
+    (λ h. absurd (let w : (Ok None) ≡ Ok (Some n) = sym (next_none s (next_place s) refl h) ∙ e in let z : ◌≡◌ {A = ℕ} 0 1 = cc in omega arith))
     (lt_or_le (next_place s) s.stream.held)
 
-pub none_there : (f : ℕ) (s : State) → next_of s ≡ Nothing → held_at f s s.stream.expected_index.0 ≡ none
+pub none_there : (f : ℕ) (s : State) → next_of s ≡ Ok None → held_at f s s.stream.expected_index.0 ≡ None
 unfolding held_at
 none_there f s e =
-    ⊎_elim (λ h. absurd (let w : Item (get_or s.lengths (next_place s) 0) ≡ Nothing = sym (next_item s (next_place s) refl h) ∙ e in let z : ◌≡◌ {A = ℕ} 0 1 = cc in omega arith))
+    ⊎_elim (λ h. absurd (let w : Ok (Some (get_or s.lengths (next_place s) 0)) ≡ (Ok None) = sym (next_item s (next_place s) refl h) ∙ e in let z : ◌≡◌ {A = ℕ} 0 1 = cc in omega arith))
     (λ h. rw (le-ltb (next_place s) s.stream.held h))
     (lt_or_le (next_place s) s.stream.held)
 
-pub out_held : (f : ℕ) (s : State) (i : ℕ) (p : List ℕ) (y : ℕ) → held_at f (arranged Out f i p s) y ≡ held_at f s y
+pub out_held : (f : ℕ) (s : State) (i : ℕ) (p : List ℕ) (y : ℕ) → held_at f (arranged (Ok Out) f i p s) y ≡ held_at f s y
 unfolding held_at
 out_held f s i p y = refl
 
-pub taken_held : (f : ℕ) (s : State) (n : ℕ) → Good f s → next_of s ≡ Item n → taken_out (Item n) f s ≡ held_at f s s.stream.expected_index.0
+pub taken_held : (f : ℕ) (s : State) (n : ℕ) → Good f s → next_of s ≡ Ok (Some n) → taken_out (Ok (Some n)) f s ≡ held_at f s s.stream.expected_index.0
 unfolding held_at
 taken_held f s n g e =
     let h = found_there s n e in

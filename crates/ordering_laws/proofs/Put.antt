@@ -3,7 +3,6 @@ use Prim.Native.Nat.{ℕ, ◌+◌, ◌*◌, ◌≤◌, ◌<◌}
 use mathlib.Core.Path.{◌≡◌, sym, ap, ◌∙◌}
 use mathlib.Core.List.{List}
 use mathlib.Core.Bool.{Bool, true, false, cond}
-use mathlib.Core.Option.{some}
 use mathlib.Core.Logic.{⊎_elim}
 use native.Mathlib.Nat.{le_refl, lt_of_lt_of_le, eq-or-lt_of_le}
 use native.Mathlib.Omega.{arith}
@@ -11,6 +10,7 @@ use borrow.Author.Tests.{eq-eqb, ne_eqb}
 use lib.Dec.{eqb}
 use lib.ListN.{length, get_or, length-set}
 use lib.Seq.{take-length, length-paste, get_or-set_same, get_or-set_other}
+use Rattle.std.specs.Prelude.{Ok, Some}
 use Rattle.laws.proofs.Paste.{part_same, part_other, places_apart}
 use Rattle.ordering_plan.specs.State.{State, place_of}
 use Rattle.ordering_plan.specs.Arrange.{arranged}
@@ -25,7 +25,7 @@ module _ (f : ℕ) (s : State) (g : Good f s) (x : ℕ) (p : List ℕ) (free : p
   K = place_of s.stream s.index x
 
   abbrev pub Put : State
-  Put = arranged (Held K) f x p s
+  Put = arranged (Ok (Held K)) f x p s
 
   K_le : K ≤ s.stream.held
   K_le = place_le s.stream s.index x (let r = g.room in omega arith)
@@ -106,11 +106,11 @@ module _ (f : ℕ) (s : State) (g : Good f s) (x : ℕ) (p : List ℕ) (free : p
             (same? j K);
       }
 
-  pub put_found : x < 65536 → held_at f Put x ≡ some p
+  pub put_found : x < 65536 → held_at f Put x ≡ Some p
   put_found small =
       let i = g.room.lengths in
       at_found f Put put_good x K small K_lt index_own
-      ∙ ap some (rw (get_or-set_same s.lengths K (length p) 0 (omega arith)) (part_same s.bytes (K * f) p (length p) within (le_refl (length p)) ∙ take-length p))
+      ∙ ap Some (rw (get_or-set_same s.lengths K (length p) 0 (omega arith)) (part_same s.bytes (K * f) p (length p) within (le_refl (length p)) ∙ take-length p))
 
   pub put_other : (y : ℕ) → y < 65536 → (y ≡ x → ⊥) → held_at f Put y ≡ held_at f s y
   put_other y small ne =

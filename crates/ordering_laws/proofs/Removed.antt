@@ -3,7 +3,6 @@ use Prim.Native.Nat.{ℕ, ◌+◌, ◌*◌, ◌≤◌, ◌<◌}
 use mathlib.Core.Path.{◌≡◌, refl, sym, ap, ◌∙◌}
 use mathlib.Core.List.{List}
 use mathlib.Core.Bool.{cond}
-use mathlib.Core.Option.{none}
 use mathlib.Core.Logic.{⊎_elim}
 use native.Mathlib.Nat.{lt_irrefl, eq-or-lt_of_le}
 use native.Mathlib.Omega.{arith}
@@ -11,10 +10,10 @@ use borrow.Author.Tests.{eq-eqb, ne_eqb}
 use lib.Dec.{eqb}
 use lib.ListN.{length, get_or, drop, set, length-set, length-drop}
 use lib.Seq.{length-paste, get_or-set_same, get_or-set_other}
+use Rattle.std.specs.Prelude.{Ok, Some, None}
 use Rattle.laws.proofs.Paste.{part_same, part_other, places_apart}
 use Rattle.ordering_plan.specs.State.{State}
 use Rattle.ordering.specs.Take.{next_place, last_place, taken}
-use Rattle.ordering.specs.declared.Taken.TheVariants.{Item}
 use Rattle.ordering.proofs.Places.{place_end}
 use Rattle.ordering_laws.specs.Held.{bytes_at, held_at, Good}
 use Rattle.ordering_laws.proofs.Found.{same?, place_at, at_absent, same_held}
@@ -27,7 +26,7 @@ module _ (f : ℕ) (s : State) (g : Good f s) (n : ℕ) (here : next_place s < s
   L = last_place s
 
   abbrev pub Left : State
-  Left = taken (Item n) f s
+  Left = taken (Ok (Some n)) f s
 
   -- where what stands at place j came from
   from : ℕ → ℕ
@@ -125,7 +124,7 @@ module _ (f : ℕ) (s : State) (g : Good f s) (n : ℕ) (here : next_place s < s
       (eq-or-lt_of_le {n = j} {m = L} (omega arith)))
       (λ away j h e. away (from j) (from_lt j h) (sym (index_from j) ∙ e))
 
-  pub left_here : s.stream.expected_index.0 < 65536 → held_at f Left s.stream.expected_index.0 ≡ none
+  pub left_here : s.stream.expected_index.0 < 65536 → held_at f Left s.stream.expected_index.0 ≡ None
   left_here small =
       at_absent f Left left_good s.stream.expected_index.0
       (λ j h e.

@@ -11,6 +11,7 @@ use native.Mathlib.Omega.{arith}
 use borrow.Author.Tests.{le-leb}
 use lib.ListN.{length, get_or, take, drop, length-append, length-drop, length-take}
 use lib.Seq.{length-take-le, get_or-take}
+use Rattle.std.specs.Prelude.{Result, Ok, Err, Option, Some, None}
 use Rattle.laws.proofs.Cases.{both, off, lt_or_le}
 use Rattle.terms.specs.Sizes.{in_range}
 use Rattle.terms.specs.declared.Sizes.{Sizes}
@@ -23,10 +24,7 @@ use Rattle.ordering_plan.specs.Room.{Room}
 use Rattle.ordering_plan.specs.Gate.{all_fit, sound, gate_of}
 use Rattle.ordering.specs.Calls.{arrange_of, take_of}
 use Rattle.ordering_plan.specs.declared.Arranged.{Arranged}
-use Rattle.ordering_plan.specs.declared.Arranged.TheVariants.{Out, Held, Old, Refused}
-use Rattle.ordering.specs.declared.Taken.{Taken}
-use Rattle.ordering.specs.declared.Taken.TheVariants.{Item, Nothing, Refused as NotTaken}
-use Rattle.terms.specs.declared.Gate.TheVariants.{Open}
+use Rattle.ordering_plan.specs.declared.Arranged.TheVariants.{Out, Held, Old}
 use Rattle.ordering_plan.proofs.Fits.{at_fits}
 use Rattle.ordering_plan.proofs.Gates.{opened, size_high, sound_once, long_enough, gate_open}
 use Rattle.ordering_plan.proofs.Planned.{held_place}
@@ -36,6 +34,7 @@ use Rattle.ordering_laws.specs.Sound.{StaysSound}
 use Rattle.ordering_laws.proofs.Put.{put_good}
 use Rattle.ordering_laws.proofs.Removed.{left_good}
 use Rattle.ordering_laws.proofs.Map.{found_there}
+use Rattle.terms.specs.declared.Refusal.{Refusal}
 
 -- of two places that differ one comes first
 once_of : (s : State) → s.stream.held ≤ length s.index → twice (take s.stream.held s.index) ≡ false
@@ -91,10 +90,10 @@ good_sound f s g =
     rw (le-leb n 64 few, a, b)
 
 module _ (z : Sizes) (s : State) (out : List ℕ) where
-  pub open_good : gate_of z s out ≡ Open → Good z.fragment_size s
+  pub open_good : gate_of z s out ≡ Ok tt → Good z.fragment_size s
   open_good e = let o = opened z s out e in sound_good z.fragment_size s o.room o.state
 
-  pub good_open : in_range z ≡ true → Good z.fragment_size s → 16 * z.fragment_size + 17 ≤ length out → gate_of z s out ≡ Open
+  pub good_open : in_range z ≡ true → Good z.fragment_size s → 16 * z.fragment_size + 17 ≤ length out → gate_of z s out ≡ Ok tt
   good_open r g h =
       gate_open z s out r (long_enough z.fragment_size s out g.room.indices g.room.lengths g.room.bytes h) (good_sound z.fragment_size s g)
 
@@ -126,31 +125,31 @@ recounted f s s' g a b c d =
     }
 
 module _ (f : ℕ) (s : State) (g : Good f s) where
-  pub arranged_good : (i : ℕ) (p : List ℕ) → length p ≤ f → (a : Arranged) → plan_of s.stream s.index i ≡ a → Good f (arranged a f i p s)
-  arranged_good i p fits Out q = recounted f s (arranged Out f i p s) g refl refl refl refl
-  arranged_good i p fits (Held k) q =
+  pub arranged_good : (i : ℕ) (p : List ℕ) → length p ≤ f → (a : Result Arranged Refusal) → plan_of s.stream s.index i ≡ a → Good f (arranged a f i p s)
+  arranged_good i p fits (Ok Out) q = recounted f s (arranged (Ok Out) f i p s) g refl refl refl refl
+  arranged_good i p fits (Ok (Held k)) q =
       let h = held_place s.stream s.index i k g.room.few g.room.indices (sym q) in
       rw h.0 (put_good f s g i p (rw (sym h.0) h.1) fits)
-  arranged_good i p fits Old q = g
-  arranged_good i p fits (Refused why) q = g
+  arranged_good i p fits (Ok Old) q = g
+  arranged_good i p fits (Err why) q = g
 
-  pub taken_good : (t : Taken) → next_of s ≡ t → Good f (taken t f s)
-  taken_good (Item n) q = left_good f s g n (found_there s n q).0
-  taken_good Nothing q = g
-  taken_good (NotTaken why) q = g
+  pub taken_good : (t : Result (Option ℕ) Refusal) → next_of s ≡ t → Good f (taken t f s)
+  taken_good (Ok (Some n)) q = left_good f s g n (found_there s n q).0
+  taken_good (Ok None) q = g
+  taken_good (Err why) q = g
 
-module _ (z : Sizes) (s : State) (out : List ℕ) (e : gate_of z s out ≡ Open) where
+module _ (z : Sizes) (s : State) (out : List ℕ) (e : gate_of z s out ≡ Ok tt) where
   abbrev F : ℕ
   F = z.fragment_size
 
-  room_out : (a : Arranged) (p : List ℕ) → length p ≤ F → 16 * F + 17 ≤ length (written (handed_out a p) out)
-  room_out Out p fits = let h = (opened z s out e).output in rw (written_length p out (omega arith)) h
-  room_out (Held k) p fits = (opened z s out e).output
-  room_out Old p fits = (opened z s out e).output
-  room_out (Refused why) p fits = (opened z s out e).output
+  room_out : (a : Result Arranged Refusal) (p : List ℕ) → length p ≤ F → 16 * F + 17 ≤ length (written (handed_out a p) out)
+  room_out (Ok Out) p fits = let h = (opened z s out e).output in rw (written_length p out (omega arith)) h
+  room_out (Ok (Held k)) p fits = (opened z s out e).output
+  room_out (Ok Old) p fits = (opened z s out e).output
+  room_out (Err why) p fits = (opened z s out e).output
 
   pub after_arrange_lem : (i : ℕ) (p : List ℕ)
-      → gate_of z (arranged (arrange_of z s i p out) F i p s) (written (handed_out (arrange_of z s i p out) p) out) ≡ Open
+      → gate_of z (arranged (arrange_of z s i p out) F i p s) (written (handed_out (arrange_of z s i p out) p) out) ≡ Ok tt
   after_arrange_lem i p =
       ⊎_elim (λ h. rw (arrange_long z s out i p e h) e)
       (λ h.
@@ -160,8 +159,8 @@ module _ (z : Sizes) (s : State) (out : List ℕ) (e : gate_of z s out ≡ Open)
       (room_out (plan_of s.stream s.index i) p h)))
       (lt_or_le F (length p))
 
-  room_taken : (t : Taken) → next_of s ≡ t → 16 * F + 17 ≤ length (written (taken_out t F s) out)
-  room_taken (Item n) q =
+  room_taken : (t : Result (Option ℕ) Refusal) → next_of s ≡ t → 16 * F + 17 ≤ length (written (taken_out t F s) out)
+  room_taken (Ok (Some n)) q =
       let o = opened z s out e in
       let w = found_there s n q in
       let short : get_or s.lengths (next_place s) 0 ≤ F = o.room.short (next_place s) w.0 in
@@ -169,10 +168,10 @@ module _ (z : Sizes) (s : State) (out : List ℕ) (e : gate_of z s out ≡ Open)
       let h = o.output in
       let l = length-take n (drop (next_place s * F) s.bytes) in
       rw (written_length (take n (drop (next_place s * F) s.bytes)) out (omega arith)) h
-  room_taken Nothing q = (opened z s out e).output
-  room_taken (NotTaken why) q = (opened z s out e).output
+  room_taken (Ok None) q = (opened z s out e).output
+  room_taken (Err why) q = (opened z s out e).output
 
-  pub after_take_lem : gate_of z (taken (take_of z s out) F s) (written (taken_out (take_of z s out) F s) out) ≡ Open
+  pub after_take_lem : gate_of z (taken (take_of z s out) F s) (written (taken_out (take_of z s out) F s) out) ≡ Ok tt
   after_take_lem =
       rw (take_open z s out e)
       (good_open z (taken (next_of s) F s) (written (taken_out (next_of s) F s) out) (opened z s out e).sizes (taken_good F s (open_good z s out e) (next_of s) refl) (room_taken (next_of s) refl))

@@ -8,7 +8,7 @@ ghost use Rattle.ordering_lent.specs.Lent.{after};
 
 use ordering::{AfterArrange, Arranged, OrderingStream};
 use serial::ItemId;
-use terms::Sizes;
+use terms::{Refusal, Sizes};
 
 // An item has come: the caller's stream is what `ordering::arrange` returns.
 pub fn arrange(
@@ -20,7 +20,7 @@ pub fn arrange(
     item: ItemId,
     payload: &[u8],
     output: &mut [u8],
-) -> Arranged
+) -> Result<Arranged, Refusal>
     ensures { Arranges sizes (lending stream.old index.old lengths.old bytes.old) item.0 payload.now output.old (after result stream.new) index.new lengths.new bytes.new output.new }
 {
     let after = ordering::arrange(sizes, *stream, index, lengths, bytes, item, payload, output);

@@ -4,13 +4,15 @@ use mathlib.Core.Path.{◌≡◌, refl, ◌∙◌}
 use mathlib.Core.List.{List, [], ◌∷◌}
 use mathlib.Core.Bool.{true, ◌&&◌}
 use native.Mathlib.Nat.{le_of_suc-le-suc, not-suc-le-zero}
+use mathlib.Core.Logic.{⊎_elim}
+use Prim.Native.Nat.{max}
 use native.Mathlib.Numerals.{add-one}
 use native.Mathlib.Omega.{arith}
 use lib.Dec.{leb}
 use lib.ListN.{length, get_or, drop, drop_of_length-le}
 use lib.Seq.{drop-cons}
 use borrow.Author.Tests.{le-leb, leb-true}
-use Rattle.laws.proofs.Cases.{case, both}
+use Rattle.laws.proofs.Cases.{case, both, lt_or_le}
 use Rattle.ordering_plan.specs.Gate.{all_fit}
 
 cons : (f n : ℕ) (ns : List ℕ) → all_fit f (n ∷ ns) ≡ (leb n f && all_fit f ns)
@@ -22,16 +24,22 @@ module _ (f : ℕ) (l : List ℕ) (i m : ℕ) (so_far : all_fit f l ≡ (leb m f
   at_turn : all_fit f (drop i l) ≡ (leb (get_or l i 0) f && all_fit f (drop (i + 1) l))
   at_turn = rw (add-one, drop-cons l i 0 here, cons)
 
-  pub fits_longer : m < get_or l i 0 → all_fit f l ≡ (leb (get_or l i 0) f && all_fit f (drop (i + 1) l))
+  fits_longer : m < get_or l i 0 → all_fit f l ≡ (leb (get_or l i 0) f && all_fit f (drop (i + 1) l))
   fits_longer h =
       so_far ∙ rw at_turn
       (case (leb m f) (λ e. rw e)
       (λ e. case (leb (get_or l i 0) f) (λ g. both (le-leb m f (omega (arith, leb-true (get_or l i 0) f g))) e) (λ g. rw (e, g))))
 
-  pub fits_shorter : get_or l i 0 ≤ m → all_fit f l ≡ (leb m f && all_fit f (drop (i + 1) l))
+  fits_shorter : get_or l i 0 ≤ m → all_fit f l ≡ (leb m f && all_fit f (drop (i + 1) l))
   fits_shorter h =
       so_far ∙ rw at_turn
       (case (leb m f) (λ e. rw (e, le-leb (get_or l i 0) f (omega (arith, leb-true m f e)))) (λ e. rw e))
+
+  pub fits_step : all_fit f l ≡ (leb (max m (get_or l i 0)) f && all_fit f (drop (i + 1) l))
+  fits_step =
+      ⊎_elim (λ h. let e : max m (get_or l i 0) ≡ get_or l i 0 = omega arith in rw e (fits_longer h))
+      (λ h. let e : max m (get_or l i 0) ≡ m = omega arith in rw e (fits_shorter h))
+      (lt_or_le m (get_or l i 0))
 
 pub fits_end : (f : ℕ) (l : List ℕ) (i : ℕ) → length l ≤ i → all_fit f (drop i l) ≡ true
 unfolding all_fit

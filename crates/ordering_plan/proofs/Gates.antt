@@ -10,9 +10,9 @@ use lib.Dec.{leb, ltb}
 use lib.ListN.{length, get_or, take}
 use lib.Seq.{length-take-le, get_or-take}
 use borrow.Author.Tests.{lt-ltb, le-ltb, leb-true, ltb-false}
-use Rattle.laws.proofs.Cases.{case, both}
+use Rattle.std.specs.Prelude.{Ok, Err}
+use Rattle.laws.proofs.Cases.{case, both, no_answer}
 use Rattle.terms.specs.Sizes.{in_range, between}
-use Rattle.terms.specs.declared.Refusal.{Refusal}
 use Rattle.terms.specs.declared.Sizes.{Sizes}
 use Rattle.terms.specs.declared.Refusal.TheVariants.{BadSizes, BadStorage, BadState}
 use Rattle.keys.specs.Keys.{twice}
@@ -20,7 +20,6 @@ use Rattle.ordering_plan.specs.State.{State}
 use Rattle.ordering_plan.specs.Gate.{too_short, all_fit, sound, gate_of}
 use Rattle.ordering_plan.specs.Room.{Room}
 use Rattle.ordering_plan.specs.declared.OrderingStream.{OrderingStream}
-use Rattle.terms.specs.declared.Gate.TheVariants.{Open, Shut}
 use Rattle.ordering_plan.proofs.Fits.{fits_at}
 
 -- a test of two parts that passes passes both
@@ -72,21 +71,21 @@ module _ (f : ℕ) (s : State) (o : List ℕ) where
   long_enough a b g h = rw (le-ltb (length s.index) 64 a, le-ltb (length s.lengths) 64 b, le-ltb (length s.bytes) (64 * f) g, le-ltb (length o) (16 * f + 17) h)
 
 module _ (z : Sizes) (s : State) (o : List ℕ) where
-  pub gate_sizes : in_range z ≡ false → gate_of z s o ≡ Shut BadSizes
+  pub gate_sizes : in_range z ≡ false → gate_of z s o ≡ Err BadSizes
   unfolding gate_of
   gate_sizes e = rw e
 
-  pub gate_storage : in_range z ≡ true → too_short z.fragment_size s o ≡ true → gate_of z s o ≡ Shut BadStorage
+  pub gate_storage : in_range z ≡ true → too_short z.fragment_size s o ≡ true → gate_of z s o ≡ Err BadStorage
   unfolding gate_of
   gate_storage e g = rw (e, g)
 
   pub gate_state : in_range z ≡ true → too_short z.fragment_size s o ≡ false → sound z.fragment_size s.stream s.index s.lengths ≡ false
-      → gate_of z s o ≡ Shut BadState
+      → gate_of z s o ≡ Err BadState
   unfolding gate_of
   gate_state e g h = rw (e, g, h)
 
   pub gate_open : in_range z ≡ true → too_short z.fragment_size s o ≡ false → sound z.fragment_size s.stream s.index s.lengths ≡ true
-      → gate_of z s o ≡ Open
+      → gate_of z s o ≡ Ok tt
   unfolding gate_of
   gate_open e g h = rw (e, g, h)
 
@@ -116,9 +115,6 @@ pub record Opened (z : Sizes) (s : State) (o : List ℕ) : Type 0 where
   pub room : Room z.fragment_size s
   pub output : 16 * z.fragment_size + 17 ≤ length o
 
-shut_open : (why : Refusal) → Shut why ≡ Open → ⊥
-shut_open why e = let z : ◌≡◌ {A = ℕ} 0 1 = cc in omega arith
-
 long : (z : Sizes) (s : State) (o : List ℕ) → in_range z ≡ true → too_short z.fragment_size s o ≡ false
     → sound z.fragment_size s.stream s.index s.lengths ≡ true → Opened z s o
 unfolding too_short
@@ -143,14 +139,14 @@ long z s o a b g =
       output = ltb-false (length o) (16 * f + 17) (right_off (ltb (length s.bytes) (64 * f)) _ q);
     }
 
-pub opened : (z : Sizes) (s : State) (o : List ℕ) → gate_of z s o ≡ Open → Opened z s o
+pub opened : (z : Sizes) (s : State) (o : List ℕ) → gate_of z s o ≡ Ok tt → Opened z s o
 opened z s o e =
     case (in_range z)
     (λ a.
     case (too_short z.fragment_size s o)
-    (λ b. absurd (shut_open BadStorage (sym (gate_storage z s o a b) ∙ e)))
+    (λ b. no_answer (sym (gate_storage z s o a b) ∙ e))
     (λ b.
     case (sound z.fragment_size s.stream s.index s.lengths)
     (λ g. long z s o a b g)
-    (λ g. absurd (shut_open BadState (sym (gate_state z s o a b g) ∙ e)))))
-    (λ a. absurd (shut_open BadSizes (sym (gate_sizes z s o a) ∙ e)))
+    (λ g. no_answer (sym (gate_state z s o a b g) ∙ e))))
+    (λ a. no_answer (sym (gate_sizes z s o a) ∙ e))

@@ -1,13 +1,12 @@
 -- Document 01, "Order: 1, 2, 13", which every call of a user tries first.
-use Rattle.std.specs.Prelude.{ℕ, ◌+◌, ◌*◌, Bool, true, cond, not, ◌&&◌, ◌||◌, List, [], ◌∷◌, ltb, leb, length, take}
+use Rattle.std.specs.Prelude.{ℕ, ◌+◌, ◌*◌, Bool, true, cond, not, ◌&&◌, ◌||◌, List, [], ◌∷◌, ltb, leb, length, take, Result, Ok, Err, ⊤}
 use Rattle.keys.specs.Keys.{twice}
 use Rattle.terms.specs.Sizes.{in_range}
 use Rattle.terms.specs.declared.Sizes.{Sizes}
 use Rattle.terms.specs.declared.Refusal.TheVariants.{BadSizes, BadStorage, BadState}
-use Rattle.terms.specs.declared.Gate.{Gate}
-use Rattle.terms.specs.declared.Gate.TheVariants.{Open, Shut}
 use Rattle.ordering_plan.specs.State.{State}
 use Rattle.ordering_plan.specs.declared.OrderingStream.{OrderingStream}
+use Rattle.terms.specs.declared.Refusal.{Refusal}
 
 -- 2: a table of 64 places, the bytes of 64 items or "an output buffer of 16 x F + 17" is too short
 unfoldable pub too_short : ℕ → State → List ℕ → Bool
@@ -25,9 +24,9 @@ unfoldable pub sound : ℕ → OrderingStream → List ℕ → List ℕ → Bool
 sound f s index lengths =
     leb s.held 64 && (all_fit f (take s.held lengths) && not (twice (take s.held index)))
 
-unfoldable pub gate_of : Sizes → State → List ℕ → Gate
+unfoldable pub gate_of : Sizes → State → List ℕ → Result ⊤ Refusal
 gate_of z s output =
-    cond (not (in_range z)) (Shut BadSizes)
-    (cond (too_short z.fragment_size s output) (Shut BadStorage)
-    (cond (not (sound z.fragment_size s.stream s.index s.lengths)) (Shut BadState)
-    Open))
+    cond (not (in_range z)) (Err BadSizes)
+    (cond (too_short z.fragment_size s output) (Err BadStorage)
+    (cond (not (sound z.fragment_size s.stream s.index s.lengths)) (Err BadState)
+    (Ok tt)))

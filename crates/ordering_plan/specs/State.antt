@@ -1,6 +1,5 @@
 -- One ordered stream, whole: its counters, and the tables and bytes that it is lent.
-use Rattle.std.specs.Prelude.{ℕ, List, ◌++◌, ◌≡◌, length, take, drop}
-use Rattle.std.proofs.Math.Option.{Option, none, some}
+use Rattle.std.specs.Prelude.{ℕ, List, ◌++◌, ◌≡◌, length, take, drop, Option, Some, None}
 use Rattle.keys.specs.Keys.{first_place}
 use Rattle.serial.specs.Order.{next}
 use Rattle.serial.specs.declared.ItemId.{ItemId}
@@ -27,8 +26,8 @@ pub record Leaves (s : State) (stream : OrderingStream) (index lengths bytes : L
 
 -- "An accepted call that hands out nothing leaves the output untouched; bytes after an item stay."
 abbrev pub written : Option (List ℕ) → List ℕ → List ℕ
-written none output = output
-written (some item) output = item ++ drop (length item) output
+written None output = output
+written (Some item) output = item ++ drop (length item) output
 
 -- a stream that has seen nothing expects item 0, holds none and sends item 0 next
 abbrev pub fresh : OrderingStream

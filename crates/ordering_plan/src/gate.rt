@@ -4,7 +4,7 @@ ghost use Rattle.ordering_plan.specs.State.{lending};
 ghost use Rattle.ordering_plan.specs.Gate.{all_fit, sound as soundness, gate_of};
 
 use crate::OrderingStream;
-use terms::{Gate, Refusal, Sizes};
+use terms::{Refusal, Sizes};
 
 pub fn check(
     sizes: Sizes,
@@ -13,29 +13,24 @@ pub fn check(
     lengths: &[u16],
     bytes: &[u8],
     output: &[u8],
-) -> Gate
+) -> Result<(), Refusal>
     ensures { result ≡ gate_of sizes (lending stream index.now lengths.now bytes.now) output.now }
 {
     if !sizes.in_range() {
-        return Gate::Shut(Refusal::BadSizes);
+        return Err(Refusal::BadSizes);
     }
     let f = sizes.fragment_size;
-    if index.len() < 64 {
-        return Gate::Shut(Refusal::BadStorage);
-    }
-    if lengths.len() < 64 {
-        return Gate::Shut(Refusal::BadStorage);
-    }
-    if bytes.len() < 64 * f {
-        return Gate::Shut(Refusal::BadStorage);
-    }
-    if output.len() < 16 * f + 17 {
-        return Gate::Shut(Refusal::BadStorage);
+    if index.len() < 64
+        || lengths.len() < 64
+        || bytes.len() < 64 * f
+        || output.len() < 16 * f + 17
+    {
+        return Err(Refusal::BadStorage);
     }
     if !sound(stream, f, index, lengths) {
-        return Gate::Shut(Refusal::BadState);
+        return Err(Refusal::BadState);
     }
-    Gate::Open
+    Ok(())
 }
 
 // For the crates above: requires tables of 64 places. Not 13.
@@ -58,12 +53,8 @@ fn all_fit(lengths: &[u16], f: usize) -> bool
     ensures { result ≡ all_fit f lengths.now }
 {
     let mut longest: u16 = 0;
-    let mut i: usize = 0;
-    while i < lengths.len() {
-        if longest < lengths[i] {
-            longest = lengths[i];
-        }
-        i += 1;
+    for length in lengths {
+        longest = longest.max(*length);
     }
     longest as usize <= f
 }

@@ -29,7 +29,6 @@ pub enum Arranged {
     // At which place.
     Held(usize),
     Old,
-    Refused(Refusal),
 }
 
 #[derive(Clone, Copy)]
@@ -54,15 +53,10 @@ impl OrderingStream {
         ensures { result ≡ numbered self }
     {
         let item = self.next_item;
-        let expected_index = self.expected_index;
         let next_item = item.successor();
         NewItem {
             item,
-            stream: OrderingStream {
-                expected_index,
-                held: self.held,
-                next_item,
-            },
+            stream: OrderingStream { next_item, ..self },
         }
     }
 }

@@ -8,22 +8,22 @@ use serial::ItemId;
 use terms::Refusal;
 
 // What is to become of an item. For the crates above: requires a table of 64 places and at most 64 held.
-pub fn judge(stream: OrderingStream, index: &[u32], item: ItemId) -> Arranged
+pub fn judge(stream: OrderingStream, index: &[u32], item: ItemId) -> Result<Arranged, Refusal>
     requires { (stream.held ≤ 64) × (64 ≤ length index.now) }
     ensures { result ≡ plan_of stream index.now item.0 }
 {
     let expected = stream.expected_index;
     let d = serial::distance(item.0, expected.0);
     if d == 0 {
-        return Arranged::Out;
+        return Ok(Arranged::Out);
     }
     if 32768 < d {
-        return Arranged::Old;
+        return Ok(Arranged::Old);
     }
     let held = stream.held;
-    let place = keys::find(&index[..held], item.0);
-    if place == 64 {
-        return Arranged::Refused(Refusal::Full);
+    match keys::find(&index[..held], item.0) {
+        Some(place) => Ok(Arranged::Held(place)),
+        None if held == 64 => Err(Refusal::Full),
+        None => Ok(Arranged::Held(held)),
     }
-    Arranged::Held(place)
 }

@@ -3,23 +3,22 @@
 --     within                where its payload starts
 --     known_means, known_is what is known of its first five bytes, and the way back
 -- Assumes nothing.
-use mathlib.Core.Path.{◌≡◌, refl}
+use mathlib.Core.Path.{◌≡◌, refl, sym, ap}
 use mathlib.Core.Bool.{Bool, true, false, cond, not, ◌||◌}
 use mathlib.Core.List.{List}
 use Prim.Native.Nat.{ℕ, ◌-◌, ◌≤◌, ◌<◌}
-use native.Mathlib.Omega.{arith}
 use lib.ListN.{length}
 use lib.Dec.{ltb, leb, eqb}
 use borrow.Author.Tests.{ltb-false, le-ltb, leb-false, lt-leb, eqb-true, eq-eqb}
-use Rattle.laws.proofs.Cases.{both}
-use Rattle.terms.specs.declared.Refusal.{Refusal}
+use Rattle.std.specs.Prelude.{Err}
+use Rattle.laws.proofs.Cases.{both, no_answer, same_answer}
 use Rattle.terms.specs.declared.Refusal.TheVariants.{CouldNotReadHeader, BadHeader}
 use Rattle.packet_table.specs.declared.Headers.{Headers}
-use Rattle.packet.specs.declared.Read.TheVariants.{Found, Refused as ReadRefused}
 use Rattle.packet_table.specs.Numbers.{number_at}
 use Rattle.packet_table.specs.Table.{follows, misfit}
 use Rattle.packet_table.specs.Layout.{payload_at}
-use Rattle.packet.specs.Read.{standard_of, headers_of, following_read, unknown, read_of}
+use Rattle.packet.specs.declared.Found.{Found}
+use Rattle.packet.specs.Read.{standard_of, headers_of, following_read, unknown, read_of, found}
 
 -- the headers that a datagram would read as
 abbrev pub found_in : List ℕ → Headers
@@ -31,32 +30,31 @@ pub record Accepted (v : ℕ) (d : List ℕ) : Type 0 where
   pub fit : misfit (standard_of d) (follows (standard_of d)) (length d - 5) ≡ false
   pub room : payload_at (follows (standard_of d)) (found_in d).fragment.id ≤ length d
 
-refused_apart : (w : Refusal) (h : Headers) (at : ℕ) → ReadRefused w ≡ Found h at → ⊥
-refused_apart w h at e = let z : ◌≡◌ {A = ℕ} 0 1 = cc in omega arith
-
 module _ (v : ℕ) (d : List ℕ) where
-  pub accepted : (h : Headers) (at : ℕ) → read_of v d ≡ Found h at
+  pub accepted : (h : Headers) (at : ℕ) → read_of v d ≡ found h at
       → Accepted v d × (h ≡ found_in d) × (at ≡ payload_at (follows (standard_of d)) (found_in d).fragment.id)
   unfolding read_of following_read
   accepted h at e = go _ _ _ _ refl refl refl refl e
     where
       go : (a b c g : Bool) → ltb (length d) 5 ≡ a → unknown v d ≡ b → misfit (standard_of d) (follows (standard_of d)) (length d - 5) ≡ c
           → ltb (length d) (payload_at (follows (standard_of d)) (found_in d).fragment.id) ≡ g
-          → cond a (ReadRefused CouldNotReadHeader) (cond (b || c) (ReadRefused BadHeader) (cond g (ReadRefused CouldNotReadHeader) (Found (found_in d) (payload_at (follows (standard_of d)) (found_in d).fragment.id)))) ≡ Found h at
+          → cond a (Err CouldNotReadHeader) (cond (b || c) (Err BadHeader) (cond g (Err CouldNotReadHeader) (found (found_in d) (payload_at (follows (standard_of d)) (found_in d).fragment.id)))) ≡ found h at
           → Accepted v d × (h ≡ found_in d) × (at ≡ payload_at (follows (standard_of d)) (found_in d).fragment.id)
-      go true b c g p q r t e = absurd (refused_apart _ _ _ e)
-      go false true c g p q r t e = absurd (refused_apart _ _ _ e)
-      go false false true g p q r t e = absurd (refused_apart _ _ _ e)
-      go false false false true p q r t e = absurd (refused_apart _ _ _ e)
-      go false false false false p q r t e = (record { long = ltb-false _ _ p; known = q; fit = r; room = ltb-false _ _ t }, cc, cc)
+      go true b c g p q r t e = no_answer e
+      go false true c g p q r t e = no_answer e
+      go false false true g p q r t e = no_answer e
+      go false false false true p q r t e = no_answer e
+      go false false false false p q r t e =
+          let same = same_answer e in
+          (record { long = ltb-false _ _ p; known = q; fit = r; room = ltb-false _ _ t }, sym (ap (λ (x : Found). x.headers) same), sym (ap (λ (x : Found). x.at) same))
 
   -- the payload starts inside the datagram, or at its end
-  pub within : (h : Headers) (at : ℕ) → read_of v d ≡ Found h at → at ≤ length d
+  pub within : (h : Headers) (at : ℕ) → read_of v d ≡ found h at → at ≤ length d
   within h at e =
       let means = accepted h at e in
       rw means.2 means.0.room
 
-  pub reads_as : Accepted v d → read_of v d ≡ Found (found_in d) (payload_at (follows (standard_of d)) (found_in d).fragment.id)
+  pub reads_as : Accepted v d → read_of v d ≡ found (found_in d) (payload_at (follows (standard_of d)) (found_in d).fragment.id)
   unfolding read_of following_read
   reads_as a = rw (le-ltb _ _ a.long, a.known, a.fit, le-ltb _ _ a.room)
 

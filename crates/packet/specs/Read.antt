@@ -1,5 +1,5 @@
 -- What a datagram reads as.
-use Rattle.std.specs.Prelude.{ℕ, ◌+◌, ◌-◌, Bool, true, false, not, cond, ◌||◌, List, length, ltb, leb, eqb}
+use Rattle.std.specs.Prelude.{ℕ, ◌+◌, ◌-◌, Bool, true, false, not, cond, ◌||◌, List, length, ltb, leb, eqb, Result, Ok, Err, Option, Some, None}
 use Rattle.terms.specs.declared.Refusal.TheVariants.{CouldNotReadHeader, BadHeader}
 use Rattle.terms.specs.Refusals.{number_of}
 use Rattle.packet_table.specs.declared.StandardHeader.{StandardHeader}
@@ -8,13 +8,12 @@ use Rattle.packet_table.specs.declared.AckedPacketHeader.{AckedPacketHeader}
 use Rattle.packet_table.specs.declared.ArrangingHeader.{ArrangingHeader}
 use Rattle.packet_table.specs.declared.Headers.{Headers}
 use Rattle.packet_table.specs.declared.table.Following.{Following}
-use Rattle.packet.specs.declared.reader.Next.{Next}
-use Rattle.packet.specs.declared.reader.Next.TheVariants.{At, Cut}
-use Rattle.packet.specs.declared.Read.{Read}
-use Rattle.packet.specs.declared.Read.TheVariants.{Found, Refused}
 use Rattle.packet_table.specs.Numbers.{number_at}
 use Rattle.packet_table.specs.Table.{type_of, delivery_of, ordering_of, follows, has_fragment, has_acked, has_arranging, misfit}
 use Rattle.packet_table.specs.Layout.{acked_at, arranging_at, payload_at}
+use Rattle.packet.specs.declared.reader.Cursor.{Cursor}
+use Rattle.terms.specs.declared.Refusal.{Refusal}
+use Rattle.packet.specs.declared.Found.{Found}
 
 abbrev pub standard_of : List ℕ → StandardHeader
 standard_of d = record { packet_type = type_of (number_at 1 d 2); delivery = delivery_of (number_at 1 d 3); ordering = ordering_of (number_at 1 d 4) }
@@ -51,30 +50,37 @@ headers_of s f d =
       arranging = arranging_of (has_arranging f) d (arranging_at f fragment.id);
     }
 
+-- the headers, and where the payload starts
+abbrev pub found : Headers → ℕ → Result Found Refusal
+found h at = Ok (record { headers = h; at = at })
+
 -- 3 where "the datagram ends inside a header it must have"
-unfoldable pub following_read : StandardHeader → Following → List ℕ → Read
+unfoldable pub following_read : StandardHeader → Following → List ℕ → Result Found Refusal
 following_read s f d =
     let at : ℕ = payload_at f (headers_of s f d).fragment.id in
-    cond (ltb (length d) at) (Refused CouldNotReadHeader) (Found (headers_of s f d) at)
+    cond (ltb (length d) at) (Err CouldNotReadHeader) (found (headers_of s f d) at)
 
 -- "V differs, a type, delivery or ordering byte is unknown"
 unfoldable pub unknown : ℕ → List ℕ → Bool
 unknown v d = not (eqb (number_at 2 d 0) v) || (leb 3 (number_at 1 d 2) || (leb 2 (number_at 1 d 3) || leb 3 (number_at 1 d 4)))
 
+abbrev pub standard_read : ℕ → List ℕ → Result StandardHeader Refusal
+standard_read v d = cond (unknown v d) (Err BadHeader) (Ok (standard_of d))
+
 -- "3 for the standard header, 4, 3 for the others"
-unfoldable pub read_of : ℕ → List ℕ → Read
+unfoldable pub read_of : ℕ → List ℕ → Result Found Refusal
 read_of v d =
     let s : StandardHeader = standard_of d in
-    cond (ltb (length d) 5) (Refused CouldNotReadHeader)
-    (cond (unknown v d || misfit s (follows s) (length d - 5)) (Refused BadHeader)
+    cond (ltb (length d) 5) (Err CouldNotReadHeader)
+    (cond (unknown v d || misfit s (follows s) (length d - 5)) (Err BadHeader)
     (following_read s (follows s) d))
 
 -- document 01's number for each answer, 0 where nothing is refused
-abbrev pub number_of_read : Read → ℕ
-number_of_read (Found headers at) = 0
-number_of_read (Refused why) = number_of why
+abbrev pub number_of_read : Result Found Refusal → ℕ
+number_of_read (Ok r) = 0
+number_of_read (Err why) = number_of why
 
 -- a cursor goes past a header of n bytes where it is there
-abbrev pub past_of : ℕ → ℕ → Bool → ℕ → Next
-past_of len at true n = cond (leb (at + n) len) (At (record { at = at + n })) Cut
-past_of len at false n = At (record { at = at })
+abbrev pub past_of : ℕ → ℕ → Bool → ℕ → Option Cursor
+past_of len at true n = cond (leb (at + n) len) (Some (record { at = at + n })) None
+past_of len at false n = Some (record { at = at })

@@ -4,8 +4,6 @@
 // crate `packet_laws`; and it never holds a payload: what is read says where the payload starts.
 #![tactic(auto)]
 
-use terms::Refusal;
-
 pub mod builder;
 pub mod reader;
 
@@ -16,16 +14,9 @@ pub use packet_table::{
 };
 pub use reader::read_headers;
 
-// The payload is the rest of the datagram from `at` on, `&datagram[at..]`. A refusal is 3 or 4.
+// What a datagram reads as. The payload is the rest of it from `at` on, `&datagram[at..]`.
 #[derive(Clone, Copy)]
-pub enum Read {
-    Found { headers: Headers, at: usize },
-    Refused(Refusal),
-}
-
-// The length of the datagram that was built. A refusal is 4 or 2.
-#[derive(Clone, Copy)]
-pub enum Built {
-    Datagram(usize),
-    Refused(Refusal),
+pub struct Found {
+    pub headers: Headers,
+    pub at: usize,
 }

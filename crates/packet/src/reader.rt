@@ -1,52 +1,47 @@
 // From a datagram to its headers. Each function is over the datagram and a cursor; none copies the payload.
 ghost use Rattle.std.specs.Prelude.{◌≡◌, ◌+◌, ◌≤◌, length};
 ghost use Rattle.packet_table.specs.Layout.{size_of};
-ghost use Rattle.packet.specs.Read.{standard_of, fragment_of, acked_of, arranging_of, following_read, unknown, read_of, past_of};
+ghost use Rattle.packet.specs.Read.{standard_read, fragment_of, acked_of, arranging_of, following_read, read_of, past_of};
 
-use crate::Read;
-use packet_table::numbers::{read_u8, read_u16, read_u32};
+use crate::Found;
+use packet_table::numbers::{read_u16, read_u32};
 use packet_table::table::Following;
 use packet_table::{
     ACKED_PACKET_HEADER, ARRANGING_PACKET_HEADER, AckedPacketHeader, ArrangingHeader,
-    FRAGMENT_HEADER_SIZE, FragmentHeader, Headers, STANDARD_HEADER_SIZE, StandardHeader, table,
+    DeliveryGuarantee, FRAGMENT_HEADER_SIZE, FragmentHeader, Headers, OrderingGuarantee,
+    PacketType, STANDARD_HEADER_SIZE, StandardHeader, table,
 };
 use serial::{ItemId, PacketNumber};
 use terms::Refusal;
 
 // A place in a datagram.
-#[derive(Clone, Copy)]
+#[derive(Clone, Copy, Debug, PartialEq, Eq)]
 pub struct Cursor {
     pub at: usize,
 }
 
-// The place past a header, or that the datagram ends inside it.
-#[derive(Clone, Copy)]
-pub enum Next {
-    At(Cursor),
-    Cut,
-}
-
 // 3 for the standard header, 4, 3 for the others.
-pub fn read_headers(version: u16, datagram: &[u8]) -> Read
+pub fn read_headers(version: u16, datagram: &[u8]) -> Result<Found, Refusal>
     ensures { result ≡ read_of version datagram.now }
 {
     if datagram.len() < STANDARD_HEADER_SIZE {
-        return Read::Refused(Refusal::CouldNotReadHeader);
+        return Err(Refusal::CouldNotReadHeader);
     }
-    if is_unknown(version, datagram) {
-        return Read::Refused(Refusal::BadHeader);
-    }
-    let standard = read_standard_header(datagram);
+    let standard = read_standard_header(version, datagram)?;
     let following = table::headers_after(standard);
     if table::is_misfit(standard, following, datagram.len() - STANDARD_HEADER_SIZE) {
-        return Read::Refused(Refusal::BadHeader);
+        return Err(Refusal::BadHeader);
     }
     read_following(datagram, standard, following)
 }
 
 // The headers after the standard one, each where the one before it ends.
 #[tactic(auto, unfolding(crate::specs::Read::following_read, crate::specs::Read::headers_of))]
-fn read_following(datagram: &[u8], standard: StandardHeader, following: Following) -> Read
+fn read_following(
+    datagram: &[u8],
+    standard: StandardHeader,
+    following: Following,
+) -> Result<Found, Refusal>
     requires { 5 ≤ length datagram.now }
     ensures { result ≡ following_read standard following datagram.now }
 {
@@ -54,22 +49,21 @@ fn read_following(datagram: &[u8], standard: StandardHeader, following: Followin
         at: STANDARD_HEADER_SIZE,
     };
     let has_fragment = table::has_fragment(following);
-    let Next::At(after_fragment) = start.past(datagram, has_fragment, FRAGMENT_HEADER_SIZE) else {
-        return Read::Refused(Refusal::CouldNotReadHeader);
-    };
+    let after_fragment = start
+        .past(datagram, has_fragment, FRAGMENT_HEADER_SIZE)
+        .ok_or(Refusal::CouldNotReadHeader)?;
     let fragment = read_fragment_header(datagram, start, has_fragment);
     let has_acked = table::has_acked(following, fragment.id);
-    let Next::At(after_acked) = after_fragment.past(datagram, has_acked, ACKED_PACKET_HEADER) else {
-        return Read::Refused(Refusal::CouldNotReadHeader);
-    };
+    let after_acked = after_fragment
+        .past(datagram, has_acked, ACKED_PACKET_HEADER)
+        .ok_or(Refusal::CouldNotReadHeader)?;
     let acked = read_acknowledge_header(datagram, after_fragment, has_acked);
     let has_arranging = table::has_arranging(following);
-    let Next::At(payload) = after_acked.past(datagram, has_arranging, ARRANGING_PACKET_HEADER)
-    else {
-        return Read::Refused(Refusal::CouldNotReadHeader);
-    };
+    let payload = after_acked
+        .past(datagram, has_arranging, ARRANGING_PACKET_HEADER)
+        .ok_or(Refusal::CouldNotReadHeader)?;
     let arranging = read_arranging_header(datagram, after_acked, has_arranging);
-    Read::Found {
+    Ok(Found {
         headers: Headers {
             standard,
             fragment,
@@ -77,38 +71,26 @@ fn read_following(datagram: &[u8], standard: StandardHeader, following: Followin
             arranging,
         },
         at: payload.at,
-    }
+    })
 }
 
-// The version word differs, or a type, delivery or ordering byte is unknown.
-fn is_unknown(version: u16, datagram: &[u8]) -> bool
+// 4 where the version word differs, or a type, delivery or ordering byte is unknown.
+fn read_standard_header(version: u16, datagram: &[u8]) -> Result<StandardHeader, Refusal>
     requires { 5 ≤ length datagram.now }
-    ensures { result ≡ unknown version datagram.now }
+    ensures { result ≡ standard_read version datagram.now }
 {
     if read_u16(datagram, 0) != version {
-        return true;
+        return Err(Refusal::BadHeader);
     }
-    if 3 <= read_u8(datagram, 2) {
-        return true;
-    }
-    if 2 <= read_u8(datagram, 3) {
-        return true;
-    }
-    3 <= read_u8(datagram, 4)
+    Ok(StandardHeader {
+        packet_type: PacketType::try_from(datagram[2])?,
+        delivery: DeliveryGuarantee::try_from(datagram[3])?,
+        ordering: OrderingGuarantee::try_from(datagram[4])?,
+    })
 }
 
-fn read_standard_header(datagram: &[u8]) -> StandardHeader
-    requires { 5 ≤ length datagram.now }
-    ensures { result ≡ standard_of datagram.now }
-{
-    StandardHeader {
-        packet_type: table::type_of(read_u8(datagram, 2)),
-        delivery: table::delivery_of(read_u8(datagram, 3)),
-        ordering: table::ordering_of(read_u8(datagram, 4)),
-    }
-}
-
-// Of this and the next two `there` says whether the header follows; the datagram has its bytes then.
+// Of this and the next two `there` says whether the header follows; the datagram has its bytes then. One that does not is read as
+// zeros, as `Headers` has it, and not as an Option.
 fn read_fragment_header(datagram: &[u8], cursor: Cursor, there: bool) -> FragmentHeader
     requires { cursor.at + size_of there 4 ≤ length datagram.now }
     ensures { result ≡ fragment_of there datagram.now cursor.at }
@@ -123,8 +105,8 @@ fn read_fragment_header(datagram: &[u8], cursor: Cursor, there: bool) -> Fragmen
     let at = cursor.at;
     FragmentHeader {
         number: PacketNumber(read_u16(datagram, at)),
-        id: read_u8(datagram, at + 2),
-        count: read_u8(datagram, at + 3),
+        id: datagram[at + 2],
+        count: datagram[at + 3],
     }
 }
 
@@ -160,25 +142,19 @@ fn read_arranging_header(datagram: &[u8], cursor: Cursor, there: bool) -> Arrang
     let at = cursor.at;
     ArrangingHeader {
         index: ItemId(read_u16(datagram, at)),
-        stream: read_u8(datagram, at + 2),
+        stream: datagram[at + 2],
     }
 }
 
 impl Cursor {
     // Past a header of `size` bytes, where it is there.
-    fn past(self, datagram: &[u8], there: bool, size: usize) -> Next
+    fn past(self, datagram: &[u8], there: bool, size: usize) -> Option<Cursor>
         ensures { result ≡ past_of (length datagram.now) self.at there size }
     {
-        let at = self.at;
         if !there {
-            return Next::At(self);
+            return Some(self);
         }
-        if datagram.len() < at {
-            return Next::Cut;
-        }
-        if datagram.len() - at < size {
-            return Next::Cut;
-        }
-        Next::At(Cursor { at: at + size })
+        let at = self.at.checked_add(size)?;
+        (at <= datagram.len()).then_some(Cursor { at })
     }
 }

@@ -6,12 +6,12 @@ use mathlib.Core.Path.{◌≡◌, refl}
 use mathlib.Core.Bool.{Bool, true, false, cond, not, ◌&&◌, ◌||◌}
 use mathlib.Core.List.{List}
 use Prim.Native.Nat.{ℕ, ◌+◌, ◌-◌, ◌≤◌}
-use native.Mathlib.Omega.{arith}
 use native.Mathlib.Nat.{add-sub_cancel_left}
 use lib.ListN.{length}
 use lib.Dec.{ltb}
 use borrow.Author.Tests.{ltb-false, le-ltb}
-use Rattle.terms.specs.declared.Refusal.{Refusal}
+use Rattle.std.specs.Prelude.{Ok, Err}
+use Rattle.laws.proofs.Cases.{no_answer}
 use Rattle.terms.specs.declared.Refusal.TheVariants.{BadStorage, BadHeader}
 use Rattle.packet_table.specs.declared.StandardHeader.{StandardHeader}
 use Rattle.packet_table.specs.declared.Headers.{Headers}
@@ -21,7 +21,6 @@ use Rattle.packet_table.specs.declared.DeliveryGuarantee.{DeliveryGuarantee}
 use Rattle.packet_table.specs.declared.DeliveryGuarantee.TheVariants.{Unreliable, Reliable}
 use Rattle.packet_table.specs.declared.OrderingGuarantee.{OrderingGuarantee}
 use Rattle.packet_table.specs.declared.OrderingGuarantee.TheVariants.{None, Sequenced, Ordered}
-use Rattle.packet.specs.declared.Built.TheVariants.{Datagram, Refused as BuildRefused}
 use Rattle.packet_table.specs.Table.{rule, follows, listed, is_heartbeat, misfit}
 use Rattle.packet_table.specs.Layout.{payload_at}
 use Rattle.packet.specs.Build.{build_of}
@@ -41,22 +40,19 @@ pub fit_same : (s : StandardHeader) (id n : ℕ) → misfit s (follows s) (paylo
 unfolding misfit follows
 fit_same s id n = fit_rule s.packet_type s.delivery s.ordering id n
 
-built_apart : (w : Refusal) (n : ℕ) → BuildRefused w ≡ Datagram n → ⊥
-built_apart w n e = let z : ◌≡◌ {A = ℕ} 0 1 = cc in omega arith
-
 module _ (h : Headers) (p o : List ℕ) where
-  pub built : misfit h.standard (follows h.standard) (length p) ≡ false → start h + length p ≤ length o → build_of h p o ≡ Datagram (start h + length p)
+  pub built : misfit h.standard (follows h.standard) (length p) ≡ false → start h + length p ≤ length o → build_of h p o ≡ Ok (start h + length p)
   unfolding build_of
   built fit room = rw (fit, le-ltb _ _ room)
 
-  pub told : (end : ℕ) → build_of h p o ≡ Datagram end
+  pub told : (end : ℕ) → build_of h p o ≡ Ok end
       → (misfit h.standard (follows h.standard) (length p) ≡ false) × (start h + length p ≤ length o) × (end ≡ start h + length p)
   unfolding build_of
   told end e = go _ _ refl refl e
     where
       go : (a b : Bool) → misfit h.standard (follows h.standard) (length p) ≡ a → ltb (length o) (start h + length p) ≡ b
-          → cond a (BuildRefused BadHeader) (cond b (BuildRefused BadStorage) (Datagram (start h + length p))) ≡ Datagram end
+          → cond a (Err BadHeader) (cond b (Err BadStorage) (Ok (start h + length p))) ≡ Ok end
           → (misfit h.standard (follows h.standard) (length p) ≡ false) × (start h + length p ≤ length o) × (end ≡ start h + length p)
-      go true b q t e = absurd (built_apart _ _ e)
-      go false true q t e = absurd (built_apart _ _ e)
+      go true b q t e = no_answer e
+      go false true q t e = no_answer e
       go false false q t e = (q, ltb-false _ _ t, cc)

@@ -7,17 +7,16 @@ use Prim.Native.Nat.{ℕ, ◌+◌, ◌-◌, ◌≤◌}
 use native.Mathlib.Omega.{arith}
 use lib.ListN.{length, drop, length-drop}
 use lib.Seq.{take_at}
+use Rattle.std.specs.Prelude.{Ok}
 use Rattle.packet_table.specs.declared.StandardHeader.{StandardHeader}
 use Rattle.packet_table.specs.declared.FragmentHeader.{FragmentHeader}
 use Rattle.packet_table.specs.declared.Headers.{Headers}
 use Rattle.packet_table.specs.declared.table.Following.{Following}
 use Rattle.packet_table.specs.declared.table.Following.TheVariants.{Unlisted, Nothing, Arranging, Acknowledgment, AcknowledgmentArranging, Fragment}
-use Rattle.packet.specs.declared.Read.TheVariants.{Found}
-use Rattle.packet.specs.declared.Built.TheVariants.{Datagram}
 use Rattle.packet_table.specs.Numbers.{Bytes}
 use Rattle.packet_table.specs.Table.{follows, has_fragment, has_acked, has_arranging, misfit}
 use Rattle.packet_table.specs.Layout.{part, fragment_bytes, acked_bytes, arranging_bytes, following_bytes, acked_at, arranging_at, payload_at, datagram}
-use Rattle.packet.specs.Read.{standard_of, no_fragment, no_acked, no_arranging, fragment_of, acked_of, arranging_of, headers_of, read_of}
+use Rattle.packet.specs.Read.{standard_of, no_fragment, no_acked, no_arranging, fragment_of, acked_of, arranging_of, headers_of, read_of, found}
 use Rattle.packet.specs.Build.{build_of}
 use Rattle.packet_laws.specs.Inverse.{Fits, carried, start, sent, Inverse, Layout, AcceptsLayouts}
 use Rattle.packet_table.proofs.Rule.{type_below, delivery_below, ordering_below}
@@ -93,7 +92,7 @@ module _ (v : ℕ) (h : Headers) (p : List ℕ) (fits : Fits v h) where
       }
 
   pub layout_reads : misfit h.standard (follows h.standard) (length p) ≡ false
-      → (read_of v (datagram v h p) ≡ Found (carried h) (start h)) × (drop (start h) (datagram v h p) ≡ p)
+      → (read_of v (datagram v h p) ≡ found (carried h) (start h)) × (drop (start h) (datagram v h p) ≡ p)
   layout_reads fit = (rw (reads_as v (datagram v h p) (layout_accepted fit), place_is, found_is), parts.rest)
 
 -- a header that is left out once is left out
@@ -170,7 +169,7 @@ module _ (v : ℕ) (d : List ℕ) (all : Bytes d) (a : Accepted v d) where
   unfolding headers_of
   layout_of = record { fits = layout_fits; listed = layout_listed; no_other = layout_once; starts = refl; is = layout_is }
 
-only : (v : ℕ) (d : List ℕ) (h : Headers) (at : ℕ) → Bytes d → read_of v d ≡ Found h at → Layout v h at (drop at d) d
+only : (v : ℕ) (d : List ℕ) (h : Headers) (at : ℕ) → Bytes d → read_of v d ≡ found h at → Layout v h at (drop at d) d
 unfolding headers_of
 only v d h at all e =
     let means = accepted v d h at e in
@@ -185,7 +184,7 @@ accepts = record {
 }
 
 -- what a builder leaves begins with the datagram
-sent_is : (v : ℕ) (h : Headers) (p o : List ℕ) (end : ℕ) → build_of h p o ≡ Datagram end → end ≡ start h + length p → sent v h p o end ≡ datagram v h p
+sent_is : (v : ℕ) (h : Headers) (p o : List ℕ) (end : ℕ) → build_of h p o ≡ Ok end → end ≡ start h + length p → sent v h p o end ≡ datagram v h p
 sent_is v h p o end e n = rw e (take_at (datagram v h p) (drop end o) end (datagram_length v h p ∙ sym n))
 
 pub inverse : Inverse
@@ -197,6 +196,6 @@ inverse = record {
       let l = only v d h at all e in
       let inside : at ≤ length d = within v d h at e in
       let long : start h + length (drop at d) ≡ length d = rw (← l.starts, length-drop) (omega arith) in
-      let made : build_of h (drop at d) o ≡ Datagram (length d) = rw long at (built h (drop at d) o l.listed (rw long room)) in
+      let made : build_of h (drop at d) o ≡ Ok (length d) = rw long at (built h (drop at d) o l.listed (rw long room)) in
       (made, sent_is v h (drop at d) o (length d) made (sym long) ∙ sym l.is);
 }

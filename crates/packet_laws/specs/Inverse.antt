@@ -1,13 +1,11 @@
 -- "Reader and builder are inverse on listed combinations", and what the reader accepts.
-use Rattle.std.specs.Prelude.{ℕ, ◌≤◌, ◌<◌, ◌≡◌, false, cond, List, length, take, drop}
+use Rattle.std.specs.Prelude.{ℕ, ◌≤◌, ◌<◌, ◌≡◌, false, cond, List, length, take, drop, Ok}
 use Rattle.packet_table.specs.declared.Headers.{Headers}
-use Rattle.packet.specs.declared.Read.TheVariants.{Found}
-use Rattle.packet.specs.declared.Built.TheVariants.{Datagram}
 use Rattle.packet_table.specs.declared.table.Following.{Following}
 use Rattle.packet_table.specs.Numbers.{Bytes}
 use Rattle.packet_table.specs.Table.{follows, has_fragment, has_acked, has_arranging, misfit}
 use Rattle.packet_table.specs.Layout.{payload_at, datagram}
-use Rattle.packet.specs.Read.{no_fragment, no_acked, no_arranging, read_of}
+use Rattle.packet.specs.Read.{no_fragment, no_acked, no_arranging, read_of, found}
 use Rattle.packet.specs.Build.{build_of, leaves}
 
 -- every field is a number that its bytes can hold, as in code it is by its type
@@ -44,12 +42,12 @@ sent v h payload output end = take end (leaves (build_of h payload output) (data
 pub record Inverse : Type 0 where
   -- what is built reads back as the same headers and the same payload
   pub read_back :
-      (v : ℕ) (h : Headers) (payload output : List ℕ) (end : ℕ) → Fits v h → build_of h payload output ≡ Datagram end
-      → (read_of v (sent v h payload output end) ≡ Found (carried h) (start h)) × (drop (start h) (sent v h payload output end) ≡ payload)
+      (v : ℕ) (h : Headers) (payload output : List ℕ) (end : ℕ) → Fits v h → build_of h payload output ≡ Ok end
+      → (read_of v (sent v h payload output end) ≡ found (carried h) (start h)) × (drop (start h) (sent v h payload output end) ≡ payload)
   -- what reads as these headers, built again with its payload, is the same datagram
   pub built_again :
-      (v : ℕ) (d : List ℕ) (h : Headers) (at : ℕ) (output : List ℕ) → Bytes d → read_of v d ≡ Found h at → length d ≤ length output
-      → (build_of h (drop at d) output ≡ Datagram (length d)) × (sent v h (drop at d) output (length d) ≡ d)
+      (v : ℕ) (d : List ℕ) (h : Headers) (at : ℕ) (output : List ℕ) → Bytes d → read_of v d ≡ found h at → length d ≤ length output
+      → (build_of h (drop at d) output ≡ Ok (length d)) × (sent v h (drop at d) output (length d) ≡ d)
 
 -- d is a listed layout: these headers, none but those that follow, and this payload
 pub record Layout (v : ℕ) (h : Headers) (at : ℕ) (payload d : List ℕ) : Type 0 where
@@ -61,5 +59,5 @@ pub record Layout (v : ℕ) (h : Headers) (at : ℕ) (payload d : List ℕ) : Ty
 
 -- what the reader accepts is exactly the listed layouts
 pub record AcceptsLayouts : Type 0 where
-  pub only : (v : ℕ) (d : List ℕ) (h : Headers) (at : ℕ) → Bytes d → read_of v d ≡ Found h at → Layout v h at (drop at d) d
-  pub all : (v : ℕ) (h : Headers) (at : ℕ) (payload d : List ℕ) → Layout v h at payload d → (read_of v d ≡ Found h at) × (drop at d ≡ payload)
+  pub only : (v : ℕ) (d : List ℕ) (h : Headers) (at : ℕ) → Bytes d → read_of v d ≡ found h at → Layout v h at (drop at d) d
+  pub all : (v : ℕ) (h : Headers) (at : ℕ) (payload d : List ℕ) → Layout v h at payload d → (read_of v d ≡ found h at) × (drop at d ≡ payload)

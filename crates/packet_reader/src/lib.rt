@@ -4,9 +4,10 @@
 
 ghost use Rattle.std.specs.Prelude.{◌≡◌, drop};
 ghost use Rattle.packet.specs.Read.{read_of};
-ghost use Rattle.packet_reader.specs.Reader.{position_after, moved};
+ghost use Rattle.packet_reader.specs.Reader.{moved};
 
-use packet::Read;
+use packet::Found;
+use terms::Refusal;
 
 // Any position may be here; after headers that were found it is where the payload starts.
 #[derive(Drop)]
@@ -26,10 +27,12 @@ impl<'a> PacketReader<'a> {
     }
 
     // From the datagram's start, as laminar does. The position goes to the payload; a refusal leaves it.
-    pub fn read_headers(&mut self, version: u16) -> Read
+    pub fn read_headers(&mut self, version: u16) -> Result<Found, Refusal>
         ensures { (result ≡ read_of version self.old.buffer.now) × (self.new ≡ moved self.old (read_of version self.old.buffer.now)) }
     {
-        read_and_move(version, self.buffer, &mut self.position)
+        let found = packet::read_headers(version, self.buffer)?;
+        self.position = found.at;
+        Ok(found)
     }
 
     // The bytes from the position on, in their place; none where it lies past the end.
@@ -41,7 +44,7 @@ impl<'a> PacketReader<'a> {
 }
 
 // A datagram's headers through a reader, for callers that hold none; `rest` is then the payload.
-pub fn read(version: u16, datagram: &[u8]) -> Read
+pub fn read(version: u16, datagram: &[u8]) -> Result<Found, Refusal>
     ensures { result ≡ read_of version datagram.now }
 {
     let mut reader = PacketReader::new(datagram);
@@ -52,27 +55,5 @@ pub fn read(version: u16, datagram: &[u8]) -> Read
 pub fn rest(buffer: &[u8], position: usize) -> &[u8]
     ensures { result.now ≡ drop position buffer.now }
 {
-    if buffer.len() < position {
-        return &buffer[buffer.len()..];
-    }
-    &buffer[position..]
-}
-
-// The work, over a plain slice and a plain position.
-fn read_and_move(version: u16, buffer: &[u8], position: &mut usize) -> Read
-    ensures { (result ≡ read_of version buffer.now) × (position.new ≡ position_after (read_of version buffer.now) position.old) }
-{
-    let answer = packet::read_headers(version, buffer);
-    *position = position_after(answer, *position);
-    answer
-}
-
-// Where the payload starts; a refusal leaves the position.
-fn position_after(answer: Read, position: usize) -> usize
-    ensures { result ≡ position_after answer position }
-{
-    match answer {
-        Read::Found { headers: _, at } => at,
-        Read::Refused(_) => position,
-    }
+    &buffer[position.min(buffer.len())..]
 }

@@ -7,9 +7,10 @@ use mathlib.Core.Path.{◌≡◌, refl, sym, ap, ◌∙◌}
 use mathlib.Core.List.{List, [], ◌∷◌, ◌++◌, append_assoc, append-nil}
 use Prim.Native.Nat.{ℕ, zero, suc, ◌+◌, ◌*◌, ◌/◌, ◌%◌, ◌^◌, ◌≤◌, ◌<◌}
 use native.Mathlib.Omega.{arith}
-use native.Mathlib.Nat.{div-lt_iff_lt-mul, pow-zero, pow-suc, pow-succ', add-mul, mul_assoc, mul-one, mod-mod, add-zero, zero-add, add-suc, suc-add}
+use native.Mathlib.Nat.{mod-eq_of_lt, div-lt_iff_lt-mul, pow-zero, pow-suc, pow-succ', add-mul, mul_assoc, mul-one, add-zero, zero-add, add-suc, suc-add}
 use lib.ListN.{length, get_or, take, drop, length-append, length-drop, take-append-drop}
 use lib.Seq.{length-take-le, drop-cons, take-add, take_at, drop_at, drop-drop, get_or-drop, get_or-take}
+use Rattle.std.specs.Int.{w16, w32, to_be_bytes}
 use Rattle.packet_table.specs.Numbers.{bytes, onward, number_at, Bytes}
 
 pub bytes_length : (w n : ℕ) → length (bytes w n) ≡ w
@@ -80,20 +81,6 @@ pub one : (d : List ℕ) (at : ℕ) → at < length d → number_at 1 d at ≡ g
 unfolding number_at onward
 one d at h = rw (drop-cons d at 0 h) (zero-add (get_or d at 0))
 
--- the two halves of a number
-pub halves : (n : ℕ) → bytes 1 (n / 256) ++ bytes 1 (n % 256) ≡ bytes 2 n
-unfolding bytes
-halves n = rw mod-mod
-
-pub quarters : (n : ℕ) → bytes 2 (n / 65536) ++ bytes 2 (n % 65536) ≡ bytes 4 n
-unfolding bytes
-quarters n =
-    let a : n / 65536 / 256 % 256 ≡ n / 256 / 256 / 256 % 256 = omega arith in
-    let b : n / 65536 % 256 ≡ n / 256 / 256 % 256 = omega arith in
-    let c : n % 65536 / 256 % 256 ≡ n / 256 % 256 = omega arith in
-    let d : n % 65536 % 256 ≡ n % 256 = omega arith in
-    rw (a, b, c, d)
-
 -- the field at a place
 module _ (w : ℕ) (d : List ℕ) (at : ℕ) where
   pub reads : (n : ℕ) (rest : List ℕ) → n < 256 ^ w → drop at d ≡ bytes w n ++ rest → (q : ℕ) → q ≡ at + w → (number_at w d at ≡ n) × (drop q d ≡ rest)
@@ -119,3 +106,19 @@ module _ (w : ℕ) (d : List ℕ) (at : ℕ) where
     pub fits_width : number_at w d at < 256 ^ w
     unfolding number_at
     fits_width = rw (zero-add, field-length) at (fits (take w (drop at d)) field-bytes 0 0 (omega arith))
+
+-- a byte, and the library's bytes of a number, high byte first
+pub one_byte : (n : ℕ) → n < 256 → bytes 1 n ≡ n ∷ []
+unfolding bytes
+one_byte n h = rw (mod-eq_of_lt {n = n} {m = 256} h)
+
+pub two_bytes : (n : ℕ) → to_be_bytes w16 n ≡ bytes 2 n
+unfolding bytes
+two_bytes n = refl
+
+pub four_bytes : (n : ℕ) → to_be_bytes w32 n ≡ bytes 4 n
+unfolding bytes
+four_bytes n =
+    let a : n / 256 / 256 / 256 % 256 ≡ n / 16777216 % 256 = omega arith in
+    let b : n / 256 / 256 % 256 ≡ n / 65536 % 256 = omega arith in
+    rw (a, b)

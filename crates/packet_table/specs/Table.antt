@@ -1,5 +1,7 @@
 -- Document 01, "Headers on the wire": the numbers of a type, a delivery and an ordering, and which headers follow them.
-use Rattle.std.specs.Prelude.{ℕ, Bool, true, false, not, cond, ◌&&◌, ◌||◌, ltb, eqb}
+use Rattle.std.specs.Prelude.{ℕ, Bool, true, false, not, cond, ◌&&◌, ◌||◌, ltb, leb, eqb, Result, Ok, Err}
+use Rattle.terms.specs.declared.Refusal.{Refusal}
+use Rattle.terms.specs.declared.Refusal.TheVariants.{BadHeader}
 use Rattle.packet_table.specs.declared.StandardHeader.{StandardHeader}
 use Rattle.packet_table.specs.declared.PacketType.{PacketType}
 use Rattle.packet_table.specs.declared.PacketType.TheVariants.{Packet, Fragment, Heartbeat}
@@ -19,6 +21,10 @@ type_number Heartbeat = 2
 unfoldable pub type_of : ℕ → PacketType
 type_of n = cond (eqb n 0) Packet (cond (eqb n 1) Fragment Heartbeat)
 
+-- 4 where the number is none: "a type, delivery or ordering byte is unknown"
+unfoldable pub type_read : ℕ → Result PacketType Refusal
+type_read n = cond (leb 3 n) (Err BadHeader) (Ok (type_of n))
+
 -- "delivery 0 unreliable, 1 reliable"
 abbrev pub delivery_number : DeliveryGuarantee → ℕ
 delivery_number Unreliable = 0
@@ -26,6 +32,9 @@ delivery_number Reliable = 1
 
 unfoldable pub delivery_of : ℕ → DeliveryGuarantee
 delivery_of n = cond (eqb n 0) Unreliable Reliable
+
+unfoldable pub delivery_read : ℕ → Result DeliveryGuarantee Refusal
+delivery_read n = cond (leb 2 n) (Err BadHeader) (Ok (delivery_of n))
 
 -- "ordering 0 none, 1 sequenced, 2 ordered"
 abbrev pub ordering_number : OrderingGuarantee → ℕ
@@ -35,6 +44,9 @@ ordering_number Ordered = 2
 
 unfoldable pub ordering_of : ℕ → OrderingGuarantee
 ordering_of n = cond (eqb n 0) None (cond (eqb n 1) Sequenced Ordered)
+
+unfoldable pub ordering_read : ℕ → Result OrderingGuarantee Refusal
+ordering_read n = cond (leb 3 n) (Err BadHeader) (Ok (ordering_of n))
 
 -- "(0,0,0) none; (0,0,1) arranging; (0,1,0) acknowledgment; (0,1,1) and (0,1,2) acknowledgment, arranging;
 -- (1,1,0) fragment, and acknowledgment when id is 0; (2,0,0) none"

@@ -17,31 +17,31 @@ pub const ACKED_PACKET_HEADER: usize = 8;
 
 pub const ARRANGING_PACKET_HEADER: usize = 3;
 
-// How a packet should be delivered.
-#[derive(Clone, Copy)]
+// How a packet should be delivered. Of this and the next two the numbers are those on the wire.
+#[derive(Clone, Copy, Debug, PartialEq, Eq)]
 pub enum DeliveryGuarantee {
-    Unreliable,
-    Reliable,
+    Unreliable = 0,
+    Reliable = 1,
 }
 
 // How a packet should be arranged.
-#[derive(Clone, Copy)]
+#[derive(Clone, Copy, Debug, PartialEq, Eq)]
 pub enum OrderingGuarantee {
-    None,
-    Sequenced,
-    Ordered,
+    None = 0,
+    Sequenced = 1,
+    Ordered = 2,
 }
 
 // What a datagram is.
-#[derive(Clone, Copy)]
+#[derive(Clone, Copy, Debug, PartialEq, Eq)]
 pub enum PacketType {
-    Packet,
-    Fragment,
-    Heartbeat,
+    Packet = 0,
+    Fragment = 1,
+    Heartbeat = 2,
 }
 
 // The header of every datagram, but for the version word.
-#[derive(Clone, Copy)]
+#[derive(Clone, Copy, Debug, PartialEq, Eq)]
 pub struct StandardHeader {
     pub packet_type: PacketType,
     pub delivery: DeliveryGuarantee,
@@ -71,7 +71,8 @@ pub struct ArrangingHeader {
     pub stream: u8,
 }
 
-// A header that does not follow has 0 in every field.
+// A header that does not follow has 0 in every field. None is an Option: the theorems of `packet_laws` and the tables of a link
+// have the zeros.
 #[derive(Clone, Copy)]
 pub struct Headers {
     pub standard: StandardHeader,

@@ -1,15 +1,16 @@
 // Which headers follow the standard one: one table, for the reader and the builder.
 ghost use Rattle.std.specs.Prelude.{◌≡◌};
-ghost use Rattle.packet_table.specs.Table.{type_number, delivery_number, ordering_number, type_of, delivery_of, ordering_of, follows, listed, has_fragment, has_acked, has_arranging, is_heartbeat, misfit};
+ghost use Rattle.packet_table.specs.Table.{type_number, delivery_number, ordering_number, type_read, delivery_read, ordering_read, follows, listed, has_fragment, has_acked, has_arranging, is_heartbeat, misfit, type_of, delivery_of, ordering_of};
 ghost use Rattle.packet_table.specs.Layout.{size_of, payload_at};
 
 use crate::{
     ACKED_PACKET_HEADER, ARRANGING_PACKET_HEADER, DeliveryGuarantee, FRAGMENT_HEADER_SIZE,
     OrderingGuarantee, PacketType, STANDARD_HEADER_SIZE, StandardHeader,
 };
+use terms::Refusal;
 
 // The headers that follow the standard one, in their order; a fragment's acknowledgment follows where its id is 0.
-#[derive(Clone, Copy)]
+#[derive(Clone, Copy, Debug, PartialEq, Eq)]
 pub enum Following {
     Unlisted,
     Nothing,
@@ -41,71 +42,49 @@ const FOLLOWING: [Following; 18] = [
     Following::Unlisted, // (2,1,2)
 ];
 
+#[tactic(auto, using(crate::proofs::Rule::type_below, crate::proofs::Rule::delivery_below, crate::proofs::Rule::ordering_below))]
 pub fn headers_after(standard: StandardHeader) -> Following
     ensures { result ≡ follows standard }
 {
-    let packet_type = standard.packet_type;
-    let delivery = standard.delivery;
-    let ordering = standard.ordering;
-    let at = type_number(packet_type) * 6
-        + delivery_number(delivery) * 3
-        + ordering_number(ordering);
+    let at = u8::from(standard.packet_type) * 6
+        + u8::from(standard.delivery) * 3
+        + u8::from(standard.ordering);
     FOLLOWING[at as usize]
 }
 
 pub fn is_listed(following: Following) -> bool
     ensures { result ≡ listed following }
 {
-    match following {
-        Following::Unlisted => false,
-        Following::Nothing => true,
-        Following::Arranging => true,
-        Following::Acknowledgment => true,
-        Following::AcknowledgmentArranging => true,
-        Following::Fragment => true,
-    }
+    !matches!(following, Following::Unlisted)
 }
 
 pub fn has_fragment(following: Following) -> bool
     ensures { result ≡ has_fragment following }
 {
-    match following {
-        Following::Unlisted => false,
-        Following::Nothing => false,
-        Following::Arranging => false,
-        Following::Acknowledgment => false,
-        Following::AcknowledgmentArranging => false,
-        Following::Fragment => true,
-    }
+    matches!(following, Following::Fragment)
 }
 
 pub fn has_acked(following: Following, id: u8) -> bool
     ensures { result ≡ has_acked following id }
 {
     match following {
-        Following::Unlisted => false,
-        Following::Nothing => false,
-        Following::Arranging => false,
-        Following::Acknowledgment => true,
-        Following::AcknowledgmentArranging => true,
+        Following::Acknowledgment | Following::AcknowledgmentArranging => true,
         Following::Fragment => id == 0,
+        Following::Unlisted | Following::Nothing | Following::Arranging => false,
     }
 }
 
 pub fn has_arranging(following: Following) -> bool
     ensures { result ≡ has_arranging following }
 {
-    match following {
-        Following::Unlisted => false,
-        Following::Nothing => false,
-        Following::Arranging => true,
-        Following::Acknowledgment => false,
-        Following::AcknowledgmentArranging => true,
-        Following::Fragment => false,
-    }
+    matches!(
+        following,
+        Following::Arranging | Following::AcknowledgmentArranging
+    )
 }
 
 // Where the payload starts.
+#[tactic(auto, using(crate::proofs::Lengths::size_most))]
 pub fn payload_at(following: Following, id: u8) -> usize
     ensures { result ≡ payload_at following id }
 {
@@ -122,39 +101,20 @@ fn size(there: bool, bytes: usize) -> usize
 }
 
 // The combination is not listed, or a heartbeat has more than its standard header: `more` bytes.
+#[tactic(auto, unfolding(crate::specs::Table::misfit))]
 pub fn is_misfit(standard: StandardHeader, following: Following, more: usize) -> bool
     ensures { result ≡ misfit standard following more }
 {
-    if !is_listed(following) {
-        return true;
-    }
-    let packet_type = standard.packet_type;
-    if !is_heartbeat(packet_type) {
-        return false;
-    }
-    0 < more
+    !is_listed(following) || (is_heartbeat(standard.packet_type) && 0 < more)
 }
 
 pub fn is_heartbeat(packet_type: PacketType) -> bool
     ensures { result ≡ is_heartbeat packet_type }
 {
-    match packet_type {
-        PacketType::Packet => false,
-        PacketType::Fragment => false,
-        PacketType::Heartbeat => true,
-    }
+    matches!(packet_type, PacketType::Heartbeat)
 }
 
-pub fn type_number(packet_type: PacketType) -> u8
-    ensures { result ≡ type_number packet_type }
-{
-    match packet_type {
-        PacketType::Packet => 0,
-        PacketType::Fragment => 1,
-        PacketType::Heartbeat => 2,
-    }
-}
-
+// Each is its number on the wire. A number that is none is refused where it is tried, and else read as the last.
 #[tactic(auto, unfolding(crate::specs::Table::type_of))]
 pub fn type_of(number: u8) -> PacketType
     ensures { result ≡ type_of number }
@@ -163,15 +123,6 @@ pub fn type_of(number: u8) -> PacketType
         0 => PacketType::Packet,
         1 => PacketType::Fragment,
         _ => PacketType::Heartbeat,
-    }
-}
-
-pub fn delivery_number(delivery: DeliveryGuarantee) -> u8
-    ensures { result ≡ delivery_number delivery }
-{
-    match delivery {
-        DeliveryGuarantee::Unreliable => 0,
-        DeliveryGuarantee::Reliable => 1,
     }
 }
 
@@ -185,16 +136,6 @@ pub fn delivery_of(number: u8) -> DeliveryGuarantee
     }
 }
 
-pub fn ordering_number(ordering: OrderingGuarantee) -> u8
-    ensures { result ≡ ordering_number ordering }
-{
-    match ordering {
-        OrderingGuarantee::None => 0,
-        OrderingGuarantee::Sequenced => 1,
-        OrderingGuarantee::Ordered => 2,
-    }
-}
-
 #[tactic(auto, unfolding(crate::specs::Table::ordering_of))]
 pub fn ordering_of(number: u8) -> OrderingGuarantee
     ensures { result ≡ ordering_of number }
@@ -203,5 +144,71 @@ pub fn ordering_of(number: u8) -> OrderingGuarantee
         0 => OrderingGuarantee::None,
         1 => OrderingGuarantee::Sequenced,
         _ => OrderingGuarantee::Ordered,
+    }
+}
+
+impl From<PacketType> for u8 {
+    ghost from_gives = { λ t n. n ≡ type_number t };
+
+    fn from(packet_type: PacketType) -> u8 {
+        packet_type as u8
+    }
+}
+
+impl TryFrom<u8> for PacketType {
+    type Error = Refusal;
+
+    ghost try_from_gives = { λ n r. r ≡ type_read n };
+
+    #[tactic(auto, unfolding(crate::specs::Table::type_read))]
+    fn try_from(number: u8) -> Result<PacketType, Refusal> {
+        match number {
+            0..=2 => Ok(type_of(number)),
+            _ => Err(Refusal::BadHeader),
+        }
+    }
+}
+
+impl From<DeliveryGuarantee> for u8 {
+    ghost from_gives = { λ d n. n ≡ delivery_number d };
+
+    fn from(delivery: DeliveryGuarantee) -> u8 {
+        delivery as u8
+    }
+}
+
+impl TryFrom<u8> for DeliveryGuarantee {
+    type Error = Refusal;
+
+    ghost try_from_gives = { λ n r. r ≡ delivery_read n };
+
+    #[tactic(auto, unfolding(crate::specs::Table::delivery_read))]
+    fn try_from(number: u8) -> Result<DeliveryGuarantee, Refusal> {
+        match number {
+            0..=1 => Ok(delivery_of(number)),
+            _ => Err(Refusal::BadHeader),
+        }
+    }
+}
+
+impl From<OrderingGuarantee> for u8 {
+    ghost from_gives = { λ o n. n ≡ ordering_number o };
+
+    fn from(ordering: OrderingGuarantee) -> u8 {
+        ordering as u8
+    }
+}
+
+impl TryFrom<u8> for OrderingGuarantee {
+    type Error = Refusal;
+
+    ghost try_from_gives = { λ n r. r ≡ ordering_read n };
+
+    #[tactic(auto, unfolding(crate::specs::Table::ordering_read))]
+    fn try_from(number: u8) -> Result<OrderingGuarantee, Refusal> {
+        match number {
+            0..=2 => Ok(ordering_of(number)),
+            _ => Err(Refusal::BadHeader),
+        }
     }
 }

@@ -5,16 +5,15 @@ use Prim.Native.Nat.{ℕ}
 use native.Mathlib.Omega.{arith}
 use lib.ListN.{length, take, drop, take-append-drop}
 use lib.Seq.{length-take-le}
+use Rattle.std.specs.Prelude.{Result, Err}
 use Rattle.terms.specs.declared.Sizes.{Sizes}
 use Rattle.terms.specs.declared.Refusal.{Refusal}
 use Rattle.reassembly_plan.specs.declared.plan.Fragment.{Fragment}
 use Rattle.reassembly_plan.specs.declared.plan.Plan.{Plan}
-use Rattle.reassembly_plan.specs.declared.plan.Plan.TheVariants.{Refuse}
 use Rattle.reassembly_plan.proofs.Opening.{Opens}
 use Rattle.reassembly.specs.Effects.{State, num_after, slots_after, entry_after, header_after, bytes_after, output_after, answer_of, performed, Performs}
 use Rattle.reassembly.specs.Call.{stated, decided, handled, Handles}
 use Rattle.reassembly.specs.Room.{lending, Room}
-use Rattle.reassembly.specs.declared.effects.Answer.TheVariants.{Refused}
 use Rattle.reassembly.specs.declared.effects.Handled.{Handled}
 
 module _ (z : Sizes) (slots entry header bytes output : List ℕ) where
@@ -39,9 +38,9 @@ module _ (z : Sizes) (slots entry header bytes output : List ℕ) where
 module _ (z : Sizes) (s : State) (g : Fragment) (payload output : List ℕ) where
   -- a refusal that nothing was done for
   pub kept : (why : Refusal) (r : Handled)
-      → decided z s output g (length payload) ≡ Refuse why
+      → decided z s output g (length payload) ≡ Err why
       → r.sequence_num.0 ≡ s.num
-      → r.answer ≡ Refused why
+      → r.answer ≡ Err why
       → Handles z s g payload output r s.slots s.entry s.header s.bytes output
   unfolding handled performed num_after slots_after entry_after header_after bytes_after output_after answer_of
   kept why r e n a = record {
@@ -55,7 +54,7 @@ module _ (z : Sizes) (s : State) (g : Fragment) (payload output : List ℕ) wher
   }
 
   -- a plan that was carried out on the table's slots
-  pub done : (plan : Plan) (r : Handled) (slots entry header bytes written : List ℕ)
+  pub done : (plan : Result Plan Refusal) (r : Handled) (slots entry header bytes written : List ℕ)
       → decided z s output g (length payload) ≡ plan
       → Performs plan z.fragment_size g payload (stated z.reassembly_slots s) output r slots entry header bytes written
       → Handles z s g payload output r (slots ++ drop z.reassembly_slots s.slots) entry header bytes written

@@ -1,17 +1,15 @@
 -- Document 01, module 3: 5, "received payload over F", and a fragment's call as a whole.
-use Rattle.std.specs.Prelude.{ℕ, cond, List, ◌++◌, ◌≡◌, ltb, length, take, drop}
+use Rattle.std.specs.Prelude.{ℕ, cond, List, ◌++◌, ◌≡◌, ltb, length, take, drop, Result, Ok, Err, Option, ⊤}
 use Rattle.terms.specs.declared.Sizes.{Sizes}
 use Rattle.terms.specs.declared.Refusal.TheVariants.{TooLong}
-use Rattle.terms.specs.declared.Gate.{Gate}
-use Rattle.terms.specs.declared.Gate.TheVariants.{Open, Shut}
 use Rattle.reassembly_plan.specs.Plan.{slot_of, plan_of}
 use Rattle.reassembly_plan.specs.Gate.{gate_of}
 use Rattle.reassembly_plan.specs.declared.plan.Fragment.{Fragment}
 use Rattle.reassembly_plan.specs.declared.plan.Plan.{Plan}
-use Rattle.reassembly_plan.specs.declared.plan.Plan.TheVariants.{Refuse}
 use Rattle.reassembly.specs.Effects.{State, room_of, performed, answer_of, output_after}
-use Rattle.reassembly.specs.declared.effects.Answer.{Answer}
 use Rattle.reassembly.specs.declared.effects.Handled.{Handled}
+use Rattle.terms.specs.declared.Refusal.{Refusal}
+use Rattle.reassembly.specs.declared.effects.Message.{Message}
 
 -- the state as the call finds it, of which C slots are the table's
 abbrev pub stated : ℕ → State → State
@@ -22,11 +20,11 @@ abbrev pub restored : ℕ → State → State → State
 restored c s t = record { num = t.num; slots = t.slots ++ drop c s.slots; entry = t.entry; header = t.header; bytes = t.bytes }
 
 -- 5: "received payload over F"
-abbrev pub plan_at : Gate → Sizes → State → Fragment → ℕ → Plan
-plan_at (Shut why) z s g len = Refuse why
-plan_at Open z s g len = cond (ltb z.fragment_size len) (Refuse TooLong) (plan_of s.num (take z.reassembly_slots s.slots) s.entry g len)
+abbrev pub plan_at : Result ⊤ Refusal → Sizes → State → Fragment → ℕ → Result Plan Refusal
+plan_at (Err why) z s g len = Err why
+plan_at (Ok tt) z s g len = cond (ltb z.fragment_size len) (Err TooLong) (plan_of s.num (take z.reassembly_slots s.slots) s.entry g len)
 
-unfoldable pub decided : Sizes → State → List ℕ → Fragment → ℕ → Plan
+unfoldable pub decided : Sizes → State → List ℕ → Fragment → ℕ → Result Plan Refusal
 decided z s output g len = plan_at (gate_of z s.slots s.entry s.header s.bytes output) z s g len
 
 -- what a call leaves of the table and what is lent
@@ -36,7 +34,7 @@ handled z s output g payload =
     (performed (decided z s output g (length payload)) z.fragment_size g payload (stated z.reassembly_slots s))
 
 -- what it answers, and what stands in the output
-abbrev pub told : Sizes → State → List ℕ → Fragment → List ℕ → Answer
+abbrev pub told : Sizes → State → List ℕ → Fragment → List ℕ → Result (Option Message) Refusal
 told z s output g payload =
     answer_of (decided z s output g (length payload)) (slot_of (take z.reassembly_slots s.slots) g) (handled z s output g payload).header
 

@@ -1,5 +1,5 @@
 // For the crates above: a plan is carried out. Each part of the table is changed in one place, and by a straight line of calls.
-ghost use Rattle.std.specs.Prelude.{◌≡◌, cond, ◌≤◌, ◌<◌, ◌+◌, length};
+ghost use Rattle.std.specs.Prelude.{◌≡◌, cond, ◌≤◌, ◌<◌, ◌+◌, length, Ok};
 ghost use Rattle.sequence_buffer.specs.Buffer.{inserted_num, inserted_slots, removed_slots};
 ghost use Rattle.reassembly_plan.specs.Plan.{plan_of};
 ghost use Rattle.reassembly.specs.Effects.{hands_out, num_after, slots_after, entry_after, header_after, bytes_after, output_after, length_of, joined_answer, answer_of, Performs};
@@ -18,21 +18,51 @@ pub struct Message {
 }
 
 #[derive(Clone, Copy)]
-pub enum Answer {
-    // The fragment has joined, and more are to come.
-    Waiting,
-    Whole(Message),
-    Refused(Refusal),
-}
-
-#[derive(Clone, Copy)]
 pub struct Handled {
     pub sequence_num: PacketNumber,
-    pub answer: Answer,
+    pub answer: Result<Option<Message>, Refusal>,
 }
 
-// Carries out a plan. For the crates above: requires room, a payload to F and the plan that `judge` gave.
+// Carries out a plan: a refusal leaves everything. For the crates above: requires room, a payload to F and the plan that `judge`
+// gave.
 pub fn perform(
+    f: usize,
+    sequence_num: PacketNumber,
+    slots: &mut [u32],
+    entry: &mut [u64],
+    header: &mut [u64],
+    bytes: &mut [u8],
+    fragment: Fragment,
+    plan: Result<Plan, Refusal>,
+    payload: &[u8],
+    output: &mut [u8],
+) -> Handled
+    requires { Room f (lending sequence_num.0 slots.old entry.old header.old bytes.old) output.old
+        × (length payload.now ≤ f)
+        × (plan ≡ plan_of sequence_num.0 slots.old entry.old fragment (length payload.now)) }
+    ensures { Performs plan f fragment payload.now (lending sequence_num.0 slots.old entry.old header.old bytes.old) output.old result slots.new entry.new header.new bytes.new output.new }
+{
+    match plan {
+        Ok(plan) => carry_out(
+            f,
+            sequence_num,
+            slots,
+            entry,
+            header,
+            bytes,
+            fragment,
+            plan,
+            payload,
+            output,
+        ),
+        Err(why) => Handled {
+            sequence_num,
+            answer: Err(why),
+        },
+    }
+}
+
+fn carry_out(
     f: usize,
     sequence_num: PacketNumber,
     slots: &mut [u32],
@@ -46,8 +76,8 @@ pub fn perform(
 ) -> Handled
     requires { Room f (lending sequence_num.0 slots.old entry.old header.old bytes.old) output.old
         × (length payload.now ≤ f)
-        × (plan ≡ plan_of sequence_num.0 slots.old entry.old fragment (length payload.now)) }
-    ensures { Performs plan f fragment payload.now (lending sequence_num.0 slots.old entry.old header.old bytes.old) output.old result slots.new entry.new header.new bytes.new output.new }
+        × (Ok plan ≡ plan_of sequence_num.0 slots.old entry.old fragment (length payload.now)) }
+    ensures { Performs (Ok plan) f fragment payload.now (lending sequence_num.0 slots.old entry.old header.old bytes.old) output.old result slots.new entry.new header.new bytes.new output.new }
 {
     let number = fragment.number;
     let at = sequence_buffer::slot(slots.len(), number);
@@ -72,11 +102,10 @@ fn number_in(
     number: PacketNumber,
 ) -> PacketNumber
     requires { (1 ≤ length slots.old) × (length slots.old ≤ 64) }
-    ensures result_value { result.0 ≡ num_after plan sequence_num.0 slots.old number.0 }
-    ensures slots_after { slots.new ≡ slots_after plan sequence_num.0 slots.old number.0 }
+    ensures result_value { result.0 ≡ num_after (Ok plan) sequence_num.0 slots.old number.0 }
+    ensures slots_after { slots.new ≡ slots_after (Ok plan) sequence_num.0 slots.old number.0 }
 {
     match plan {
-        Plan::Refuse(_) => sequence_num,
         Plan::Make => make_entry(sequence_num, slots, number),
         Plan::Join(joining) => {
             let after = make_if(joining.made, sequence_num, slots, number);
@@ -127,35 +156,23 @@ fn remove_entry(whole: bool, slots: &mut [u32], number: PacketNumber)
 #[tactic(auto, unfolding(crate::specs::Effects::entry_after))]
 fn note(plan: Plan, entry: &mut [u64], at: usize, count: u8)
     requires { at < length entry.old }
-    ensures { entry.new ≡ entry_after plan count at entry.old }
+    ensures { entry.new ≡ entry_after (Ok plan) count at entry.old }
 {
-    match plan {
-        Plan::Refuse(_) => {}
-        Plan::Make => {
-            let made = Entry::opened(count);
-            entry[at] = made.pack();
-        }
-        Plan::Join(joining) => {
-            let grown = joining.entry;
-            entry[at] = grown.pack();
-        }
-    }
+    entry[at] = match plan {
+        Plan::Make => Entry::opened(count).pack(),
+        Plan::Join(joining) => joining.entry.pack(),
+    };
 }
 
 // The acknowledgment header that comes with fragment 0.
 #[tactic(auto, unfolding(crate::specs::Effects::header_after))]
 fn keep_header(plan: Plan, header: &mut [u64], at: usize, fragment: Fragment)
     requires { at < length header.old }
-    ensures { header.new ≡ header_after plan fragment at header.old }
+    ensures { header.new ≡ header_after (Ok plan) fragment at header.old }
 {
-    match plan {
-        Plan::Refuse(_) => {}
-        Plan::Make => {}
-        Plan::Join(_) => {
-            if fragment.id == 0 {
-                let given = fragment.header;
-                header[at] = given.pack();
-            }
+    if let Plan::Join(_) = plan {
+        if fragment.id == 0 {
+            header[at] = fragment.header.pack();
         }
     }
 }
@@ -164,16 +181,11 @@ fn keep_header(plan: Plan, header: &mut [u64], at: usize, fragment: Fragment)
 #[tactic(auto, unfolding(crate::specs::Effects::bytes_after))]
 fn join(plan: Plan, bytes: &mut [u8], room: usize, payload: &[u8])
     requires { Joins room (length payload.now) (length bytes.old) plan }
-    ensures { bytes.new ≡ bytes_after plan room payload.now bytes.old }
+    ensures { bytes.new ≡ bytes_after (Ok plan) room payload.now bytes.old }
 {
-    match plan {
-        Plan::Refuse(_) => {}
-        Plan::Make => {}
-        Plan::Join(joining) => {
-            let start = room + joining.at;
-            let end = start + payload.len();
-            copying::copy(payload, &mut bytes[start..end]);
-        }
+    if let Plan::Join(joining) = plan {
+        let start = room + joining.at;
+        copying::copy(payload, &mut bytes[start..start + payload.len()]);
     }
 }
 
@@ -181,17 +193,12 @@ fn join(plan: Plan, bytes: &mut [u8], room: usize, payload: &[u8])
 #[tactic(auto, unfolding(crate::specs::Effects::output_after))]
 fn hand_out(plan: Plan, bytes: &[u8], room: usize, output: &mut [u8])
     requires { Hands room (length bytes.now) (length output.old) plan }
-    ensures { output.new ≡ output_after plan room bytes.now output.old }
+    ensures { output.new ≡ output_after (Ok plan) room bytes.now output.old }
 {
-    match plan {
-        Plan::Refuse(_) => {}
-        Plan::Make => {}
-        Plan::Join(joining) => {
-            let entry = joining.entry;
-            if goes_out(entry) {
-                let end = room + message_length(entry);
-                copying::copy(&bytes[room..end], output);
-            }
+    if let Plan::Join(joining) = plan {
+        let entry = joining.entry;
+        if goes_out(entry) {
+            copying::copy(&bytes[room..room + message_length(entry)], output);
         }
     }
 }
@@ -212,29 +219,28 @@ fn message_length(entry: Entry) -> usize
 
 // What is answered. The header is fragment 0's, which was kept.
 #[tactic(auto, unfolding(crate::specs::Effects::answer_of))]
-fn tell(plan: Plan, header: &[u64], at: usize) -> Answer
+fn tell(plan: Plan, header: &[u64], at: usize) -> Result<Option<Message>, Refusal>
     requires { at < length header.now }
-    ensures { result ≡ answer_of plan at header.now }
+    ensures { result ≡ answer_of (Ok plan) at header.now }
 {
     match plan {
-        Plan::Refuse(why) => Answer::Refused(why),
-        Plan::Make => Answer::Refused(Refusal::ExceededMaxFragments),
+        Plan::Make => Err(Refusal::ExceededMaxFragments),
         Plan::Join(joining) => tell_joined(joining.entry, header[at]),
     }
 }
 
 #[tactic(auto, unfolding(crate::specs::Effects::joined_answer))]
-fn tell_joined(entry: Entry, header: u64) -> Answer
+fn tell_joined(entry: Entry, header: u64) -> Result<Option<Message>, Refusal>
     ensures { result ≡ joined_answer entry header }
 {
     if entry.received != entry.total {
-        return Answer::Waiting;
+        return Ok(None);
     }
     if entry.ids % 2 != 1 {
-        return Answer::Refused(Refusal::MissingAckHeader);
+        return Err(Refusal::MissingAckHeader);
     }
-    Answer::Whole(Message {
+    Ok(Some(Message {
         length: message_length(entry),
         header: AckHeader::unpack(header),
-    })
+    }))
 }

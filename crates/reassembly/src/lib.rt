@@ -7,11 +7,11 @@
 ghost use Rattle.reassembly.specs.Room.{lending};
 ghost use Rattle.reassembly.specs.Call.{Handles};
 
-use effects::{Answer, Handled};
+use effects::Handled;
 pub use reassembly_plan::plan::Fragment;
 pub use reassembly_plan::words::AckHeader;
 use serial::PacketNumber;
-use terms::{Gate, Refusal, Sizes};
+use terms::{Refusal, Sizes};
 
 pub mod effects;
 
@@ -29,22 +29,21 @@ pub fn handle_fragment(
 ) -> Handled
     ensures { Handles sizes (lending sequence_num.0 slots.old entry.old header.old bytes.old) fragment payload.now output.old result slots.new entry.new header.new bytes.new output.new }
 {
-    let gate = reassembly_plan::gate::check(sizes, slots, entry, header, bytes, output);
-    if let Gate::Shut(why) = gate {
+    if let Err(why) = reassembly_plan::gate::check(sizes, slots, entry, header, bytes, output) {
         return Handled {
             sequence_num,
-            answer: Answer::Refused(why),
+            answer: Err(why),
         };
     }
     let f = sizes.fragment_size;
     if f < payload.len() {
         return Handled {
             sequence_num,
-            answer: Answer::Refused(Refusal::TooLong),
+            answer: Err(Refusal::TooLong),
         };
     }
     let c = sizes.reassembly_slots;
-    let plan = reassembly_plan::plan::judge(
+    let judged = reassembly_plan::plan::judge(
         f,
         sequence_num,
         &slots[..c],
@@ -52,6 +51,15 @@ pub fn handle_fragment(
         fragment,
         payload.len(),
     );
+    let plan = match judged {
+        Ok(plan) => plan,
+        Err(why) => {
+            return Handled {
+                sequence_num,
+                answer: Err(why),
+            };
+        }
+    };
     effects::perform(
         f,
         sequence_num,
@@ -60,7 +68,7 @@ pub fn handle_fragment(
         header,
         bytes,
         fragment,
-        plan,
+        Ok(plan),
         payload,
         output,
     )

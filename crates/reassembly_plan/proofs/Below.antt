@@ -2,11 +2,10 @@
 --     count_more     one more number has it
 --     count_ones     the set digits of a number, counted by place
 --     all_at, all_of, all_not     what `all_below` says, number by number
---     from_less      what holds from i on, and at i - 1, holds from there on
-use mathlib.Core.Path.{◌≡◌, refl, sym, ap, ◌∙◌, subst}
+use mathlib.Core.Path.{◌≡◌, refl, sym, ap, ◌∙◌}
 use mathlib.Core.Bool.{Bool, true, false, cond, ◌||◌, or-false, or-true}
 use mathlib.Core.Logic.{⊎_elim}
-use Prim.Native.Nat.{ℕ, zero, suc, ◌+◌, ◌-◌, ◌/◌, ◌%◌, ◌^◌, ◌≤◌, ◌<◌}
+use Prim.Native.Nat.{ℕ, zero, suc, ◌+◌, ◌/◌, ◌%◌, ◌^◌, ◌≤◌, ◌<◌}
 use native.Mathlib.Nat.{not-suc-le-zero, mod-lt, mod-eq_of_lt, mod-one, div-one}
 use native.Mathlib.Omega.{arith}
 use lib.Count.{ones, ones_cat}
@@ -75,9 +74,6 @@ module _ (p : ℕ → Bool) where
 
   pub all_at : (n j : ℕ) → all_below p n ≡ true → j < n → p j ≡ true
   all_at n j a h = case (p j) (λ e. e) (λ e. both a (all_not n j h e))
-
-pub from_less : (P : ℕ → Type 0) (n i : ℕ) → ((k : ℕ) → i ≤ k → k < n → P k) → P (i - 1) → (k : ℕ) → i - 1 ≤ k → k < n → P k
-from_less P n i all here k l h = ⊎_elim (λ m. let e : i - 1 ≡ k = omega arith in subst P e here) (λ m. all k m h) (lt_or_le k i)
 
 -- the lowest bit, as it is tested
 pub bit_zero : (x : ℕ) → bit x 0 ≡ eqb (x % 2) 1

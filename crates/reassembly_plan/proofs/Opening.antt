@@ -3,15 +3,13 @@ use mathlib.Core.Path.{◌≡◌}
 use mathlib.Core.Bool.{true, false}
 use mathlib.Core.List.{List}
 use Prim.Native.Nat.{ℕ, ◌+◌, ◌*◌, ◌≤◌}
-use native.Mathlib.Omega.{arith}
 use lib.Dec.{ltb}
 use lib.ListN.{length, take}
 use borrow.Author.Tests.{ltb-false}
-use Rattle.laws.proofs.Cases.{case, neither}
+use Rattle.std.specs.Prelude.{Ok}
+use Rattle.laws.proofs.Cases.{case, neither, no_answer}
 use Rattle.terms.specs.Sizes.{in_range}
 use Rattle.terms.specs.declared.Sizes.{Sizes}
-use Rattle.terms.specs.declared.Refusal.{Refusal}
-use Rattle.terms.specs.declared.Gate.TheVariants.{Open, Shut}
 use Rattle.terms.proofs.Ranges.{InRange, in_range_means}
 use Rattle.reassembly_plan.specs.Gate.{sound, too_short, gate_of}
 
@@ -37,24 +35,21 @@ long_enough f c slots entry header bytes output e =
       output_room = ltb-false _ _ s.1;
     }
 
-shut : {G : Type 0} (why : Refusal) → Shut why ≡ Open → G
-shut why e = absurd (let z : ◌≡◌ {A = ℕ} 0 1 = cc in omega arith)
-
 pub record Opens (z : Sizes) (slots entry header bytes output : List ℕ) : Type 0 where
   pub within_range : InRange z
   pub long : Long z.fragment_size z.reassembly_slots slots entry header bytes output
   pub is_sound_lem : sound z.fragment_size (take z.reassembly_slots slots) entry ≡ true
 
 module _ (z : Sizes) (slots entry header bytes output : List ℕ) where
-  pub gate_opens : gate_of z slots entry header bytes output ≡ Open → Opens z slots entry header bytes output
+  pub gate_opens : gate_of z slots entry header bytes output ≡ Ok tt → Opens z slots entry header bytes output
   unfolding gate_of
   gate_opens e =
       case (in_range z)
       (λ a.
       case (too_short z.fragment_size z.reassembly_slots slots entry header bytes output)
-      (λ b. shut _ (rw (a, b) at e))
+      (λ b. no_answer (rw (a, b) at e))
       (λ b.
       case (sound z.fragment_size (take z.reassembly_slots slots) entry)
       (λ d. record { within_range = in_range_means z a; long = long_enough _ _ slots entry header bytes output b; is_sound_lem = d })
-      (λ d. shut _ (rw (a, b, d) at e))))
-      (λ a. shut _ (rw a at e))
+      (λ d. no_answer (rw (a, b, d) at e))))
+      (λ a. no_answer (rw a at e))

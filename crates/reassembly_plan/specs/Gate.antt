@@ -1,5 +1,5 @@
 -- Document 01, "Order: 1, 2, 13": what every call of a user tries first.
-use Rattle.std.specs.Prelude.{ℕ, zero, suc, ◌+◌, ◌*◌, Bool, true, cond, not, ◌&&◌, ◌||◌, List, ltb, leb, eqb, length, get_or, take}
+use Rattle.std.specs.Prelude.{ℕ, zero, suc, ◌+◌, ◌*◌, Bool, true, cond, not, ◌&&◌, ◌||◌, List, ltb, leb, eqb, length, get_or, take, Result, Ok, Err, ⊤}
 use Rattle.laws.specs.Bits.{bit}
 use Rattle.keys.specs.Keys.{twice}
 use Rattle.terms.specs.Sizes.{in_range}
@@ -7,8 +7,7 @@ use Rattle.terms.specs.declared.Sizes.{Sizes}
 use Rattle.terms.specs.declared.Refusal.TheVariants.{BadSizes, BadStorage, BadState}
 use Rattle.reassembly_plan.specs.Words.{entry_of}
 use Rattle.reassembly_plan.specs.declared.words.Entry.{Entry}
-use Rattle.terms.specs.declared.Gate.{Gate}
-use Rattle.terms.specs.declared.Gate.TheVariants.{Open, Shut}
+use Rattle.terms.specs.declared.Refusal.{Refusal}
 
 -- how many of the numbers below n have p
 unfoldable pub count_below : (ℕ → Bool) → ℕ → ℕ
@@ -37,9 +36,9 @@ unfoldable pub too_short : ℕ → ℕ → List ℕ → List ℕ → List ℕ �
 too_short f c slots entry header bytes output =
     ltb (length slots) c || (ltb (length entry) c || (ltb (length header) c || (ltb (length bytes) (c * (16 * f)) || ltb (length output) (16 * f + 17))))
 
-unfoldable pub gate_of : Sizes → List ℕ → List ℕ → List ℕ → List ℕ → List ℕ → Gate
+unfoldable pub gate_of : Sizes → List ℕ → List ℕ → List ℕ → List ℕ → List ℕ → Result ⊤ Refusal
 gate_of z slots entry header bytes output =
-    cond (not (in_range z)) (Shut BadSizes)
-    (cond (too_short z.fragment_size z.reassembly_slots slots entry header bytes output) (Shut BadStorage)
-    (cond (not (sound z.fragment_size (take z.reassembly_slots slots) entry)) (Shut BadState)
-    Open))
+    cond (not (in_range z)) (Err BadSizes)
+    (cond (too_short z.fragment_size z.reassembly_slots slots entry header bytes output) (Err BadStorage)
+    (cond (not (sound z.fragment_size (take z.reassembly_slots slots) entry)) (Err BadState)
+    (Ok tt)))

@@ -5,7 +5,7 @@ ghost use Rattle.laws.specs.Bits.{bit};
 ghost use Rattle.reassembly_plan.specs.Gate.{count_below, entry_sound, sound as soundness, too_short, gate_of};
 
 use crate::words::Entry;
-use terms::{Gate, Refusal, Sizes};
+use terms::{Refusal, Sizes};
 
 pub fn check(
     sizes: Sizes,
@@ -14,24 +14,25 @@ pub fn check(
     header: &[u64],
     bytes: &[u8],
     output: &[u8],
-) -> Gate
+) -> Result<(), Refusal>
     ensures { result ≡ gate_of sizes slots.now entry.now header.now bytes.now output.now }
 {
     if !sizes.in_range() {
-        return Gate::Shut(Refusal::BadSizes);
+        return Err(Refusal::BadSizes);
     }
     let f = sizes.fragment_size;
     let c = sizes.reassembly_slots;
     if too_short(f, c, slots, entry, header, bytes, output) {
-        return Gate::Shut(Refusal::BadStorage);
+        return Err(Refusal::BadStorage);
     }
     if !sound(f, &slots[..c], entry) {
-        return Gate::Shut(Refusal::BadState);
+        return Err(Refusal::BadState);
     }
-    Gate::Open
+    Ok(())
 }
 
 // A lent buffer is shorter than stated. For the crates above: requires F and C in range.
+#[tactic(auto, unfolding(crate::specs::Gate::too_short))]
 pub fn too_short(
     f: usize,
     c: usize,
@@ -44,19 +45,11 @@ pub fn too_short(
     requires { (f ≤ 1024) × (c ≤ 64) }
     ensures { result ≡ too_short f c slots.now entry.now header.now bytes.now output.now }
 {
-    if slots.len() < c {
-        return true;
-    }
-    if entry.len() < c {
-        return true;
-    }
-    if header.len() < c {
-        return true;
-    }
-    if bytes.len() < c * (16 * f) {
-        return true;
-    }
-    output.len() < 16 * f + 17
+    slots.len() < c
+        || entry.len() < c
+        || header.len() < c
+        || bytes.len() < c * (16 * f)
+        || output.len() < 16 * f + 17
 }
 
 // Not 13. For the crates above: requires F in range, and an entry beside each slot.
@@ -65,13 +58,11 @@ pub fn sound(f: usize, slots: &[u32], entry: &[u64]) -> bool
     ensures { result ≡ soundness f slots.now entry.now }
 {
     let mut home = true;
-    let mut i = used(slots);
-    while 0 < i {
-        i -= 1;
+    for i in (0..used(slots)).rev() {
         if !sound_beside(f, slots[i], entry[i]) {
             return false;
         }
-        home = stays_home(home, slots[i], i, slots.len());
+        home = home && stays_home(slots[i], i, slots.len());
     }
     if home {
         return true;
@@ -83,42 +74,22 @@ pub fn sound(f: usize, slots: &[u32], entry: &[u64]) -> bool
 fn used(slots: &[u32]) -> usize
     ensures { (result ≤ length slots.now) × ((j : ℕ) → result ≤ j → j < length slots.now → 65536 ≤ get_or slots.now j 0) }
 {
-    let mut i = slots.len();
-    while 8 <= i {
-        if !none_in(slots, i - 8) {
-            return i;
+    let mut rest = slots;
+    while let Some((front, part)) = rest.split_last_chunk::<8>() {
+        if !keys::none_below(part, 65536) {
+            break;
         }
-        i -= 8;
+        rest = front;
     }
-    i
+    rest.len()
 }
 
-// None of eight slots has a number. A `false` says nothing. Requires them.
-fn none_in(slots: &[u32], at: usize) -> bool
-    requires { at + 8 ≤ length slots.now }
-    ensures { result ≡ true → (k : ℕ) → k < 8 → 65536 ≤ get_or slots.now (at + k) 0 }
-{
-    let mut all: u32 = 4294967295;
-    let mut k: usize = 0;
-    while k < 8 {
-        all = all & slots[at + k];
-        k += 1;
-    }
-    65536 <= all
-}
-
-// Each number so far stands in its own slot, and this one too, if it is one: then none stands twice.
-fn stays_home(home: bool, slot: u32, at: usize, size: usize) -> bool
+// A slot has its own number or none. Where all have, no number stands twice.
+fn stays_home(slot: u32, at: usize, size: usize) -> bool
     requires { 1 ≤ size }
-    ensures { result ≡ true → (home ≡ true) × (slot < 65536 → slot % size ≡ at) }
+    ensures { result ≡ true → slot < 65536 → slot % size ≡ at }
 {
-    if 65536 <= slot {
-        return home;
-    }
-    if slot as usize % size != at {
-        return false;
-    }
-    home
+    65536 <= slot || slot as usize % size == at
 }
 
 // What stands beside a slot without a number may be anything.
@@ -152,5 +123,5 @@ fn are_so_many(ids: u16, received: u8) -> bool
             return true;
         }
     }
-    received as u32 == u32::count_ones(ids as u32)
+    received as u32 == (ids as u32).count_ones()
 }

@@ -32,7 +32,6 @@ pub struct Joining {
 // What is to become of a fragment.
 #[derive(Clone, Copy)]
 pub enum Plan {
-    Refuse(Refusal),
     // 8 where the entry was absent: it is made, and the fragment refused.
     Make,
     Join(Joining),
@@ -46,14 +45,14 @@ pub fn judge(
     entry: &[u64],
     fragment: Fragment,
     size: usize,
-) -> Plan
+) -> Result<Plan, Refusal>
     requires { Growing f slots.now entry.now × (size ≤ f) }
     ensures { result ≡ plan_of sequence_num.0 slots.now entry.now fragment size }
 {
     let number = fragment.number;
     let there = sequence_buffer::exists(slots, number);
     if passed(there, sequence_num, slots, number) {
-        return Plan::Refuse(Refusal::CouldNotFindFragmentById);
+        return Err(Refusal::CouldNotFindFragmentById);
     }
     let at = sequence_buffer::slot(slots.len(), number);
     let held = found(there, entry, at, fragment.count);
@@ -61,17 +60,16 @@ pub fn judge(
 }
 
 // No entry has the number, and it is too old for one.
+#[tactic(auto, unfolding(crate::specs::Plan::passed))]
 fn passed(there: bool, sequence_num: PacketNumber, slots: &[u32], number: PacketNumber) -> bool
     requires { (1 ≤ length slots.now) × (length slots.now ≤ 64) }
     ensures { result ≡ has_passed there sequence_num.0 slots.now number.0 }
 {
-    if there {
-        return false;
-    }
-    sequence_buffer::too_old(sequence_num, slots, number)
+    !there && sequence_buffer::too_old(sequence_num, slots, number)
 }
 
 // The entry of a fragment, as it stands in its slot or as it is made.
+#[tactic(auto, unfolding(crate::specs::Plan::found))]
 fn found(there: bool, entry: &[u64], at: usize, count: u8) -> Entry
     requires { at < length entry.now }
     ensures { result ≡ found_entry there entry.now at count }
@@ -83,28 +81,28 @@ fn found(there: bool, entry: &[u64], at: usize, count: u8) -> Entry
 }
 
 // 10, 8, 11, or the fragment joins.
-fn judge_entry(there: bool, held: Entry, fragment: Fragment, size: usize) -> Plan
+fn judge_entry(there: bool, held: Entry, fragment: Fragment, size: usize) -> Result<Plan, Refusal>
     requires { (held.received < 255) × (held.joined + size ≤ 65535) }
     ensures { result ≡ judged there held fragment size }
 {
     if held.total != fragment.count {
-        return Plan::Refuse(Refusal::FragmentWithUnevenNumberOfFragments);
+        return Err(Refusal::FragmentWithUnevenNumberOfFragments);
     }
     let id = fragment.id;
     if 16 <= id {
         if there {
-            return Plan::Refuse(Refusal::ExceededMaxFragments);
+            return Err(Refusal::ExceededMaxFragments);
         }
-        return Plan::Make;
+        return Ok(Plan::Make);
     }
     if (held.ids >> id) % 2 == 1 {
-        return Plan::Refuse(Refusal::AlreadyProcessedFragment);
+        return Err(Refusal::AlreadyProcessedFragment);
     }
-    Plan::Join(Joining {
+    Ok(Plan::Join(Joining {
         made: !there,
         at: place_of(held),
         entry: grow(held, id, size),
-    })
+    }))
 }
 
 // Where the bytes of a fragment go in the room of its entry: after those that came before it.

@@ -52,17 +52,18 @@ fn bits(newest: u16, slots: &[u32]) -> u32
     requires { length slots.now ≡ slot_count }
     ensures { result ≡ bits_below (heard newest slots.now) 32 }
 {
-    let mut field: u32 = 0;
-    for k in 0u16..32 {
+    let mut field = 0;
+    for k in 0..32 {
         let number = PacketNumber(serial::distance(newest, k + 1));
         if exists(slots, number) {
-            field = field | (1 << k);
+            field |= 1 << k;
         }
     }
     field
 }
 
 // What the field says, bit by bit. It has no code: its contract is the theorem.
+#[tactic(auto, using(crate::proofs::Facts::facts))]
 pub fn field_facts()
     ensures { FieldFacts }
 {}

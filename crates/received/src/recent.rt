@@ -33,11 +33,9 @@ fn recent_slots(oldest: u32, slots: &[u32]) -> u64
     requires { (length slots.now ≡ slot_count) × (oldest < 65536) }
     ensures { result ≡ bits_below (recent_at oldest slots.now) 33 }
 {
-    let mut all: u32 = 4294967295;
-    let mut i: usize = 1;
-    while i < 33 {
-        all = all & unless_recent(oldest, slots[i], 4294967295 - (1 << (32 - i)));
-        i += 1;
+    let mut all = u32::MAX;
+    for i in 1..33 {
+        all &= unless_recent(oldest, slots[i], u32::MAX - (1 << (32 - i)));
     }
     is_recent(oldest, slots[0]) as u64 * 4294967296 + all as u64
 }
@@ -48,14 +46,16 @@ fn unless_recent(oldest: u32, entry: u32, other: u32) -> u32
     ensures { result ≡ (if is_recent oldest entry then 4294967295 else other) }
 {
     if is_recent(oldest, entry) {
-        return 4294967295;
+        u32::MAX
+    } else {
+        other
     }
-    other
 }
 
+#[tactic(auto, unfolding(crate::specs::Recent::is_recent))]
 fn is_recent(oldest: u32, entry: u32) -> bool
     requires { oldest < 65536 }
     ensures { result ≡ is_recent oldest entry }
 {
-    std::num::wrapping_sub_u32(entry, oldest) % 2147483648 < 32
+    entry.wrapping_sub(oldest) % 2147483648 < 32
 }

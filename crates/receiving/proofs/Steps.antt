@@ -5,30 +5,29 @@ use mathlib.Core.List.{List}
 use lib.ListN.{length, take, drop, length-drop}
 use lib.Seq.{take-length}
 use borrow.Author.Tests.{lt-ltb, le-ltb}
+use Rattle.std.specs.Prelude.{Result, Ok, Err}
 use Rattle.terms.specs.declared.Sizes.{Sizes}
 use Rattle.terms.specs.declared.Refusal.{Refusal}
 use Rattle.terms.specs.declared.Refusal.TheVariants.{TooLong}
-use Rattle.packet.specs.Read.{read_of}
+use Rattle.packet.specs.Read.{read_of, found}
 use Rattle.packet_table.specs.declared.Headers.{Headers}
 use Rattle.packet_table.specs.declared.PacketType.TheVariants.{Packet, Fragment, Heartbeat as IsHeartbeat}
-use Rattle.packet.specs.declared.Read.{Read}
-use Rattle.packet.specs.declared.Read.TheVariants.{Found, Refused as Unread}
 use Rattle.ends.specs.State.{State, lending}
 use Rattle.ends.specs.declared.End.{End}
 use Rattle.receiving_packets.specs.Packets.{Accepts}
 use Rattle.receiving_fragments.specs.Fragments.{Joins}
-use Rattle.receiving.specs.Receive.{Step, refused, refusal_of, packet_of, fragment_of, with_part, received_of, Receives}
+use Rattle.receiving.specs.Receive.{Step, refused, packet_of, fragment_of, with_part, received_of, Receives}
 use Rattle.receiving_packets.specs.declared.Received.{Received}
 use Rattle.receiving_fragments.specs.declared.Joined.{Joined}
 use Rattle.receiving_plan.specs.declared.Answer.{Answer}
 use Rattle.receiving_plan.specs.declared.Answer.TheVariants.{Heartbeat}
 
 module _ (z : Sizes) (s : State) (d output : List ℕ) where
-  pub on_unread : (why : Refusal) → read_of z.version d ≡ Unread why → received_of z s d output ≡ refused why s output
+  pub on_unread : (why : Refusal) → read_of z.version d ≡ Err why → received_of z s d output ≡ refused why s output
   unfolding received_of
   on_unread why q = rw q
 
-  module _ (h : Headers) (at : ℕ) (q : read_of z.version d ≡ Found h at) where
+  module _ (h : Headers) (at : ℕ) (q : read_of z.version d ≡ found h at) where
     pub on-long : z.fragment_size < length d - at → received_of z s d output ≡ refused TooLong s output
     unfolding received_of
     on-long l = rw (q, lt-ltb _ _ l)
@@ -42,12 +41,9 @@ module _ (z : Sizes) (s : State) (d output : List ℕ) where
       unfolding received_of
       on-fragment t = rw (q, le-ltb _ _ short, t)
 
-      pub on-heartbeat : h.standard.packet_type ≡ IsHeartbeat → received_of z s d output ≡ record { answer = Heartbeat; end = s; output = output }
+      pub on-heartbeat : h.standard.packet_type ≡ IsHeartbeat → received_of z s d output ≡ record { answer = Ok Heartbeat; end = s; output = output }
       unfolding received_of
       on-heartbeat t = rw (q, le-ltb _ _ short, t)
-
-pub told_why : (r : Read) (v w : Refusal) → r ≡ Unread v → w ≡ refusal_of r → r ≡ Unread w
-told_why r v w q p = let z : w ≡ v = rw q at p in rw z q
 
 -- the rest of a datagram, as a part that is lent is
 pub rest : (d : List ℕ) (a : ℕ) → take (length d - a) (drop a d) ≡ drop a d
@@ -58,7 +54,7 @@ module _ (end : End) (received number records payloads slots entry header joined
   whole = lending end received number records payloads slots entry header joined index lengths held
 
   -- nothing has changed
-  pub left_all : (t : Step) (r : Received) (a : Answer) → t ≡ record { answer = a; end = whole; output = output } → r ≡ record { end = end; answer = a }
+  pub left_all : (t : Step) (r : Received) (a : Result Answer Refusal) → t ≡ record { answer = a; end = whole; output = output } → r ≡ record { end = end; answer = a }
       → Receives t r received number records payloads slots entry header joined index lengths held output
   left_all t r a q w =
       rw (q, w)

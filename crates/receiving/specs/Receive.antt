@@ -1,15 +1,13 @@
 -- Document 01, module 7: a datagram has come, once 1, 2 and 13 are answered. "3 for the standard header, 4, 3 for the others, 5, 7,
 -- 6; for a fragment after 5: 9, 10, 8, 11, 12."
-use Rattle.std.specs.Prelude.{ℕ, ◌-◌, ◌≡◌, cond, List, ltb, length, drop}
+use Rattle.std.specs.Prelude.{ℕ, ◌-◌, ◌≡◌, cond, List, ltb, length, drop, Result, Ok, Err}
 use Rattle.terms.specs.declared.Sizes.{Sizes}
 use Rattle.terms.specs.declared.Refusal.{Refusal}
-use Rattle.terms.specs.declared.Refusal.TheVariants.{BadHeader, TooLong}
+use Rattle.terms.specs.declared.Refusal.TheVariants.{TooLong}
 use Rattle.packet.specs.Read.{read_of}
 use Rattle.packet_table.specs.declared.Headers.{Headers}
 use Rattle.packet_table.specs.declared.PacketType.{PacketType}
 use Rattle.packet_table.specs.declared.PacketType.TheVariants.{Packet, Fragment, Heartbeat as IsHeartbeat}
-use Rattle.packet.specs.declared.Read.{Read}
-use Rattle.packet.specs.declared.Read.TheVariants.{Found, Refused as Unread}
 use Rattle.acks.specs.State.{State as Acks}
 use Rattle.ends.specs.State.{State, Leaves}
 use Rattle.ends.specs.declared.End.{End}
@@ -21,28 +19,25 @@ use Rattle.receiving_plan.specs.declared.Plan.{Plan}
 use Rattle.receiving_packets.specs.declared.Received.{Received}
 use Rattle.receiving_fragments.specs.declared.Joined.{Joined}
 use Rattle.receiving_plan.specs.declared.Answer.{Answer}
-use Rattle.receiving_plan.specs.declared.Answer.TheVariants.{Heartbeat, Refused}
+use Rattle.receiving_plan.specs.declared.Answer.TheVariants.{Heartbeat}
+use Rattle.packet.specs.declared.Found.{Found}
 
 -- what a call answers, and what it leaves of the end and of the output
 pub record Step : Type 0 where
-  pub answer : Answer
+  pub answer : Result Answer Refusal
   pub end : State
   pub output : List ℕ
 
 -- "all unchanged"
 abbrev pub refused : Refusal → State → List ℕ → Step
-refused why s output = record { answer = Refused why; end = s; output = output }
-
-abbrev pub refusal_of : Read → Refusal
-refusal_of (Found h at) = BadHeader
-refusal_of (Unread why) = why
+refused why s output = record { answer = Err why; end = s; output = output }
 
 -- what was heard, in the end's state
 abbrev pub hearing : Heard → Acks → Acks
 hearing t a = record { counters = t.counters; received = t.received; number = t.number; records = a.records; bytes = a.bytes }
 
 -- a packet: everything is judged, then it is heard and arranged
-abbrev pub packet_as : Plan → Sizes → Headers → List ℕ → State → List ℕ → Step
+abbrev pub packet_as : Result Plan Refusal → Sizes → Headers → List ℕ → State → List ℕ → Step
 packet_as plan z h payload s output =
     record {
       answer = told plan (item_of h (length payload));
@@ -84,14 +79,14 @@ with_part end p =
 abbrev pub by_type : PacketType → Sizes → Headers → List ℕ → State → List ℕ → Step
 by_type Packet z h payload s output = packet_of z h payload s output
 by_type Fragment z h payload s output = fragment_of z h payload s output
-by_type IsHeartbeat z h payload s output = record { answer = Heartbeat; end = s; output = output }
+by_type IsHeartbeat z h payload s output = record { answer = Ok Heartbeat; end = s; output = output }
 
 -- 3 and 4 as they were read; 5: "received payload over F"
-abbrev pub read_as : Read → Sizes → State → List ℕ → List ℕ → Step
-read_as (Unread why) z s d output = refused why s output
-read_as (Found h at) z s d output =
-    cond (ltb z.fragment_size (length d - at)) (refused TooLong s output)
-    (by_type h.standard.packet_type z h (drop at d) s output)
+abbrev pub read_as : Result Found Refusal → Sizes → State → List ℕ → List ℕ → Step
+read_as (Err why) z s d output = refused why s output
+read_as (Ok r) z s d output =
+    cond (ltb z.fragment_size (length d - r.at)) (refused TooLong s output)
+    (by_type r.headers.standard.packet_type z r.headers (drop r.at d) s output)
 
 unfoldable pub received_of : Sizes → State → List ℕ → List ℕ → Step
 received_of z s d output = read_as (read_of z.version d) z s d output

@@ -3,17 +3,16 @@
 // taking items of an ordered stream, which is `arranging`; and the users' call with its gate, which is `link`.
 #![tactic(auto)]
 
-ghost use Rattle.std.specs.Prelude.{◌≡◌};
-ghost use Rattle.terms.specs.declared.Gate.TheVariants.{Open};
+ghost use Rattle.std.specs.Prelude.{◌≡◌, Ok};
 ghost use Rattle.flight_home.specs.AtHome.{KnownHome};
 ghost use Rattle.acks.specs.State.{table_of};
 ghost use Rattle.ends.specs.State.{lending};
 ghost use Rattle.ends.specs.Gate.{gate_of};
 ghost use Rattle.receiving_plan.specs.declared.Answer.TheVariants.{Heartbeat};
-ghost use Rattle.receiving.specs.Receive.{refusal_of, with_part, received_of, Receives};
+ghost use Rattle.receiving.specs.Receive.{with_part, received_of, Receives};
 
 use ends::End;
-use packet::{PacketType, Read};
+use packet::{Found, PacketType};
 use receiving_fragments::Joined;
 pub use receiving_packets::{Received, refused};
 pub use receiving_plan::{Answer, Item};
@@ -39,13 +38,14 @@ pub fn receive(
     output: &mut [u8],
     home: bool,
 ) -> Received
-    requires { (gate_of sizes (lending end received.old number.old records.now payloads.now slots.old entry.old header.old joined.old index.old lengths.old held.old) output.old ≡ Open) × KnownHome home (table_of sizes number.old) }
+    requires { (gate_of sizes (lending end received.old number.old records.now payloads.now slots.old entry.old header.old joined.old index.old lengths.old held.old) output.old ≡ Ok tt) × KnownHome home (table_of sizes number.old) }
     ensures { Receives (received_of sizes (lending end received.old number.old records.now payloads.now slots.old entry.old header.old joined.old index.old lengths.old held.old) datagram.now output.old)
         result received.new number.new records.now payloads.now slots.new entry.new header.new joined.new index.new lengths.new held.new output.new }
 {
+    // Document 01 takes what was read apart by `let .. else`; where nothing was found there is a refusal.
     let read = packet::read_headers(sizes.version, datagram);
-    let Read::Found { headers, at } = read else {
-        return refused(end, refusal_of(read));
+    let Ok(Found { headers, at }) = read else {
+        return refused(end, read.err().unwrap_or(Refusal::BadHeader));
     };
     if sizes.fragment_size < datagram.len() - at {
         return refused(end, Refusal::TooLong);
@@ -83,36 +83,21 @@ pub fn receive(
 fn with_part(end: End, part: Joined) -> Received
     ensures { result ≡ with_part end part }
 {
-    let acks = part.acks;
-    let reassembly = part.reassembly;
-    let ordering = end.ordering;
-    let sequencing = end.sequencing;
-    let answer = part.answer;
     Received {
         end: End {
-            acks,
-            reassembly,
-            ordering,
-            sequencing,
+            acks: part.acks,
+            reassembly: part.reassembly,
+            ..end
         },
-        answer,
+        answer: part.answer,
     }
 }
 
 fn heartbeat(end: End) -> Received
-    ensures { result ≡ record { end = end; answer = Heartbeat } }
+    ensures { result ≡ record { end = end; answer = (Ok Heartbeat) } }
 {
     Received {
         end,
-        answer: Answer::Heartbeat,
-    }
-}
-
-fn refusal_of(read: Read) -> Refusal
-    ensures { result ≡ refusal_of read }
-{
-    match read {
-        Read::Found { .. } => Refusal::BadHeader,
-        Read::Refused(why) => why,
+        answer: Ok(Answer::Heartbeat),
     }
 }

@@ -12,18 +12,19 @@ ghost use Rattle.receiving_fragments.specs.Fragments.{part_of, acks_at_whole, to
 
 use acks::Acknowledgment;
 use packet::{DeliveryGuarantee, Headers, OrderingGuarantee};
+use reassembly::effects::Message;
 use reassembly_plan::plan::Fragment;
 use reassembly_plan::words::AckHeader;
 use receiving_plan::{Answer, Item};
 use serial::PacketNumber;
-use terms::Sizes;
+use terms::{Refusal, Sizes};
 
 // What a fragment changes of an end, and the answer. It leaves out the streams, so that they are not copied on the way.
 #[derive(Clone, Copy)]
 pub struct Joined {
     pub acks: Acknowledgment,
     pub reassembly: PacketNumber,
-    pub answer: Answer,
+    pub answer: Result<Answer, Refusal>,
 }
 
 // Requires the parts of an end that the gate lets through, with packets in flight at home where they are said to be, and a
@@ -49,7 +50,17 @@ pub fn join(
     let f = sizes.fragment_size;
     let c = sizes.reassembly_slots;
     let fragment = fragment(headers);
-    let plan = reassembly_plan::plan::judge(f, num, &slots[..c], entry, fragment, payload.len());
+    let judged = reassembly_plan::plan::judge(f, num, &slots[..c], entry, fragment, payload.len());
+    let plan = match judged {
+        Ok(plan) => plan,
+        Err(why) => {
+            return Joined {
+                acks,
+                reassembly: num,
+                answer: Err(why),
+            };
+        }
+    };
     let handled = reassembly::effects::perform(
         f,
         num,
@@ -58,15 +69,14 @@ pub fn join(
         header,
         joined,
         fragment,
-        plan,
+        Ok(plan),
         payload,
         output,
     );
     let answer = handled.answer;
-    let reassembly = handled.sequence_num;
     Joined {
         acks: hear_whole(answer, sizes, acks, received, number, home),
-        reassembly,
+        reassembly: handled.sequence_num,
         answer: tell(answer),
     }
 }
@@ -76,16 +86,13 @@ fn fragment(headers: Headers) -> Fragment
 {
     let part = headers.fragment;
     let acked = headers.acked;
-    let number = part.number;
-    let heard = acked.number;
-    let newest = acked.acked;
     Fragment {
-        number,
+        number: part.number,
         id: part.id,
         count: part.count,
         header: AckHeader {
-            number: heard,
-            acked: newest,
+            number: acked.number,
+            acked: acked.acked,
             field: acked.field,
         },
     }
@@ -93,7 +100,7 @@ fn fragment(headers: Headers) -> Fragment
 
 // "Fragments acknowledge at completion", by fragment 0's header.
 fn hear_whole(
-    answer: reassembly::effects::Answer,
+    answer: Result<Option<Message>, Refusal>,
     sizes: Sizes,
     acks: Acknowledgment,
     received: &mut [u32],
@@ -103,35 +110,31 @@ fn hear_whole(
     requires { (slot_count ≤ length received.old) × (sizes.packets_in_flight ≤ length number.old) × KnownHome home (table_of sizes number.old) }
     ensures { Hearing (acks_at_whole answer sizes acks received.old number.old) result received.new number.new }
 {
-    match answer {
-        reassembly::effects::Answer::Waiting => acks,
-        reassembly::effects::Answer::Whole(message) => {
-            let header = message.header;
-            acks::steps::incoming(
-                acks,
-                received,
-                &mut number[..sizes.packets_in_flight],
-                header.number,
-                header.acked,
-                header.field,
-                home,
-            )
-        }
-        reassembly::effects::Answer::Refused(_) => acks,
-    }
+    let Ok(Some(message)) = answer else {
+        return acks;
+    };
+    let header = message.header;
+    acks::steps::incoming(
+        acks,
+        received,
+        &mut number[..sizes.packets_in_flight],
+        header.number,
+        header.acked,
+        header.field,
+        home,
+    )
 }
 
-fn tell(answer: reassembly::effects::Answer) -> Answer
+fn tell(answer: Result<Option<Message>, Refusal>) -> Result<Answer, Refusal>
     ensures { result ≡ told_part answer }
 {
-    match answer {
-        reassembly::effects::Answer::Waiting => Answer::Waiting,
-        reassembly::effects::Answer::Whole(message) => Answer::Out(Item {
-            delivery: DeliveryGuarantee::Reliable,
-            ordering: OrderingGuarantee::None,
-            stream: 0,
-            length: message.length,
-        }),
-        reassembly::effects::Answer::Refused(why) => Answer::Refused(why),
-    }
+    let Some(message) = answer? else {
+        return Ok(Answer::Waiting);
+    };
+    Ok(Answer::Out(Item {
+        delivery: DeliveryGuarantee::Reliable,
+        ordering: OrderingGuarantee::None,
+        stream: 0,
+        length: message.length,
+    }))
 }

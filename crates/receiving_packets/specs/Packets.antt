@@ -1,6 +1,6 @@
 -- Document 01, module 7: "Reliable packet: after every check, `process_incoming`, then arranging. So a refusal records no packet
 -- number; an old item's is recorded like a new one's. Unordered items are handed out at each arrival."
-use Rattle.std.specs.Prelude.{ℕ, ◌*◌, ◌≤◌, ◌<◌, ◌≡◌, cond, List, ◌++◌, length, drop}
+use Rattle.std.specs.Prelude.{ℕ, ◌*◌, ◌≤◌, ◌<◌, ◌≡◌, cond, List, ◌++◌, length, drop, Result, Ok, Err}
 use Rattle.terms.specs.declared.Sizes.{Sizes}
 use Rattle.received.specs.Record.{slot_count}
 use Rattle.acks.specs.declared.Acknowledgment.{Acknowledgment}
@@ -9,7 +9,6 @@ use Rattle.packet_table.specs.declared.ArrangingHeader.{ArrangingHeader}
 use Rattle.ordering_plan.specs.Arrange.{arranged, plan_of as item_plan}
 use Rattle.arranging_plan.specs.Ordered.{States, lending_all, RoomForAll, state_at, stored_at, stream_at, part}
 use Rattle.arranging.specs.Sequenced.{arranged_at}
-use Rattle.arranging_plan.specs.declared.ordered.Planned.{Planned}
 use Rattle.arranging_plan.specs.declared.ordered.OrderingStreams.{OrderingStreams}
 use Rattle.arranging.specs.declared.sequenced.SequencingStreams.{SequencingStreams}
 use Rattle.ends.specs.declared.End.{End}
@@ -17,41 +16,43 @@ use Rattle.receiving_plan.specs.Plan.{plan_of, refuses, told, item_of}
 use Rattle.receiving_plan.specs.Heard.{Heard, unheard, acks_by}
 use Rattle.receiving_packets.specs.declared.Received.{Received}
 use Rattle.receiving_plan.specs.declared.Answer.{Answer}
-use Rattle.receiving_plan.specs.declared.Answer.TheVariants.{Out, Held, Old, Dropped, Waiting, Heartbeat, Refused}
+use Rattle.receiving_plan.specs.declared.Answer.TheVariants.{Out, Held, Old, Dropped, Waiting, Heartbeat}
 use Rattle.receiving_plan.specs.declared.Sequencing.{Sequencing}
+use Rattle.receiving_plan.specs.declared.Ordering.{Ordering}
 use Rattle.receiving_plan.specs.declared.Plan.{Plan}
-use Rattle.receiving_plan.specs.declared.Plan.TheVariants.{Refuse, Unordered, Sequenced, Ordered}
+use Rattle.receiving_plan.specs.declared.Plan.TheVariants.{Unordered, Sequenced, Ordered}
+use Rattle.terms.specs.declared.Refusal.{Refusal}
 
 -- what each plan makes of the sequenced streams, and of the ordered ones
-abbrev pub sequenced_by : Plan → ArrangingHeader → SequencingStreams → SequencingStreams
-sequenced_by (Refuse why) i s = s
-sequenced_by Unordered i s = s
-sequenced_by (Sequenced q) i s = (arranged_at s q.at i.stream i.index).streams
-sequenced_by (Ordered p) i s = s
+abbrev pub sequenced_by : Result Plan Refusal → ArrangingHeader → SequencingStreams → SequencingStreams
+sequenced_by (Err why) i s = s
+sequenced_by (Ok Unordered) i s = s
+sequenced_by (Ok (Sequenced q)) i s = (arranged_at s q.at i.stream i.index).streams
+sequenced_by (Ok (Ordered p)) i s = s
 
-abbrev pub ordered_by : Plan → ℕ → ArrangingHeader → List ℕ → States → States
-ordered_by (Refuse why) f i payload s = s
-ordered_by Unordered f i payload s = s
-ordered_by (Sequenced q) f i payload s = s
-ordered_by (Ordered p) f i payload s = stored_at f s p.at i.stream (arranged p.plan f i.index.0 payload (state_at f s p.at))
+abbrev pub ordered_by : Result Plan Refusal → ℕ → ArrangingHeader → List ℕ → States → States
+ordered_by (Err why) f i payload s = s
+ordered_by (Ok Unordered) f i payload s = s
+ordered_by (Ok (Sequenced q)) f i payload s = s
+ordered_by (Ok (Ordered p)) f i payload s = stored_at f s p.at i.stream (arranged (Ok p.answer) f i.index.0 payload (state_at f s p.at))
 
 -- "An accepted call that hands out nothing leaves the output untouched; bytes after an item stay."
-abbrev pub handed : Answer → List ℕ → List ℕ → List ℕ
-handed (Out item) payload output = payload ++ drop (length payload) output
-handed Held payload output = output
-handed Old payload output = output
-handed Dropped payload output = output
-handed Waiting payload output = output
-handed Heartbeat payload output = output
-handed (Refused why) payload output = output
+abbrev pub handed : Result Answer Refusal → List ℕ → List ℕ → List ℕ
+handed (Ok (Out item)) payload output = payload ++ drop (length payload) output
+handed (Ok Held) payload output = output
+handed (Ok Old) payload output = output
+handed (Ok Dropped) payload output = output
+handed (Ok Waiting) payload output = output
+handed (Ok Heartbeat) payload output = output
+handed (Err why) payload output = output
 
 -- "a refusal records no packet number"
-abbrev pub acks_after : Plan → Sizes → Headers → Acknowledgment → List ℕ → List ℕ → Heard
+abbrev pub acks_after : Result Plan Refusal → Sizes → Headers → Acknowledgment → List ℕ → List ℕ → Heard
 acks_after plan z h c received number =
     cond (refuses plan) (unheard c received number) (acks_by h.standard.delivery z h.acked c received number)
 
 -- what a plan answers and leaves
-pub record Performs (plan : Plan) (z : Sizes) (h : Headers) (payload : List ℕ) (end : End) (received number index lengths held output : List ℕ)
+pub record Performs (plan : Result Plan Refusal) (z : Sizes) (h : Headers) (payload : List ℕ) (end : End) (received number index lengths held output : List ℕ)
     (r : Received) (received' number' index' lengths' held' output' : List ℕ) : Type 0 where
   pub answer_is : r.answer ≡ told plan (item_of h (length payload))
   pub acks_are : r.end.acks ≡ (acks_after plan z h end.acks received number).counters
@@ -80,9 +81,9 @@ pub record PacketReady (z : Sizes) (end : End) (received number index lengths he
   pub room : z.fragment_size ≤ length output
 
 -- what a plan carries is the item's own
-abbrev pub SequencedReady : Plan → SequencingStreams → Type 0
-SequencedReady plan s = (q : Sequencing) → plan ≡ Sequenced q → (q.at < 4) × (s.known.made ≤ 4)
+abbrev pub SequencedReady : Result Plan Refusal → SequencingStreams → Type 0
+SequencedReady plan s = (q : Sequencing) → plan ≡ Ok (Sequenced q) → (q.at < 4) × (s.known.made ≤ 4)
 
-abbrev pub OrderedReady : Plan → OrderingStreams → List ℕ → ArrangingHeader → Type 0
+abbrev pub OrderedReady : Result Plan Refusal → OrderingStreams → List ℕ → ArrangingHeader → Type 0
 OrderedReady plan s index i =
-    (p : Planned) → plan ≡ Ordered p → (p.at < 4) × (p.plan ≡ item_plan (stream_at s p.at) (part index (p.at * 64) 64) i.index.0)
+    (p : Ordering) → plan ≡ Ok (Ordered p) → (p.at < 4) × (Ok p.answer ≡ item_plan (stream_at s p.at) (part index (p.at * 64) 64) i.index.0)

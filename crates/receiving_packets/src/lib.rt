@@ -3,13 +3,12 @@
 // `receiving`, and fragments, which are `receiving_fragments`.
 #![tactic(auto)]
 
-ghost use Rattle.std.specs.Prelude.{◌≡◌, false, ◌≤◌, length};
+ghost use Rattle.std.specs.Prelude.{◌≡◌, ◌≤◌, length, Ok, Err};
 ghost use Rattle.received.specs.Record.{slot_count};
 ghost use Rattle.flight_home.specs.AtHome.{KnownHome};
 ghost use Rattle.acks.specs.State.{table_of};
 ghost use Rattle.arranging_plan.specs.Ordered.{lending_all, RoomForAll, LeavesAll};
-ghost use Rattle.receiving_plan.specs.declared.Answer.TheVariants.{Refused};
-ghost use Rattle.receiving_plan.specs.Plan.{plan_of, refuses, item_of};
+ghost use Rattle.receiving_plan.specs.Plan.{plan_of, item_of};
 ghost use Rattle.receiving_plan.specs.Heard.{Hearing, acks_by};
 ghost use Rattle.receiving_packets.specs.Packets.{PacketReady, sequenced_by, ordered_by, handed, SequencedReady, OrderedReady, Accepts, Performs};
 
@@ -24,7 +23,7 @@ use terms::{Refusal, Sizes};
 #[derive(Clone, Copy)]
 pub struct Received {
     pub end: End,
-    pub answer: Answer,
+    pub answer: Result<Answer, Refusal>,
 }
 
 // Requires an end that the gate lets through, with packets in flight at home where they are said to be, and a payload to F.
@@ -44,21 +43,21 @@ pub fn accept(
     requires { PacketReady sizes end received.old number.old index.old lengths.old held.old payload.now output.old × KnownHome home (table_of sizes number.old) }
     ensures { Accepts sizes headers payload.now end received.old number.old index.old lengths.old held.old output.old result received.new number.new index.new lengths.new held.new output.new }
 {
-    let plan = receiving_plan::judge(end.ordering, end.sequencing, index, headers);
-    if let Plan::Refuse(why) = plan {
-        return refused(end, why);
-    }
+    let plan = match receiving_plan::judge(end.ordering, end.sequencing, index, headers) {
+        Ok(plan) => plan,
+        Err(why) => return refused(end, why),
+    };
     perform(
         sizes, end, received, number, index, lengths, held, headers, plan, payload, output, home,
     )
 }
 
 pub fn refused(end: End, why: Refusal) -> Received
-    ensures { result ≡ record { end = end; answer = Refused why } }
+    ensures { result ≡ record { end = end; answer = Err why } }
 {
     Received {
         end,
-        answer: Answer::Refused(why),
+        answer: Err(why),
     }
 }
 
@@ -77,14 +76,18 @@ fn perform(
     output: &mut [u8],
     home: bool,
 ) -> Received
-    requires { PacketReady sizes end received.old number.old index.old lengths.old held.old payload.now output.old × (plan ≡ plan_of headers end.ordering index.old end.sequencing) × (refuses plan ≡ false) × KnownHome home (table_of sizes number.old) }
-    ensures { Performs plan sizes headers payload.now end received.old number.old index.old lengths.old held.old output.old result received.new number.new index.new lengths.new held.new output.new }
+    requires { PacketReady sizes end received.old number.old index.old lengths.old held.old payload.now output.old × (Ok plan ≡ plan_of headers end.ordering index.old end.sequencing) × KnownHome home (table_of sizes number.old) }
+    ensures { Performs (Ok plan) sizes headers payload.now end received.old number.old index.old lengths.old held.old output.old result received.new number.new index.new lengths.new held.new output.new }
 {
-    let standard = headers.standard;
-    let delivery = standard.delivery;
-    let reassembly = end.reassembly;
-    let acked = headers.acked;
-    let acks = hear(delivery, sizes, end.acks, received, number, acked, home);
+    let acks = hear(
+        headers.standard.delivery,
+        sizes,
+        end.acks,
+        received,
+        number,
+        headers.acked,
+        home,
+    );
     let sequencing = sequence(plan, end.sequencing, headers.arranging);
     let ordering = arrange(
         plan,
@@ -97,28 +100,26 @@ fn perform(
         payload,
     );
     let item = item(headers, payload.len());
-    let answer = receiving_plan::tell(plan, item);
+    let answer = receiving_plan::tell(Ok(plan), item);
     hand_out(answer, payload, output);
-    let after = End {
-        acks,
-        reassembly,
-        ordering,
-        sequencing,
-    };
-    Received { end: after, answer }
+    Received {
+        end: End {
+            acks,
+            ordering,
+            sequencing,
+            ..end
+        },
+        answer,
+    }
 }
 
 fn item(headers: Headers, length: usize) -> Item
     ensures { result ≡ item_of headers length }
 {
-    let standard = headers.standard;
-    let arranging = headers.arranging;
-    let delivery = standard.delivery;
-    let ordering = standard.ordering;
     Item {
-        delivery,
-        ordering,
-        stream: arranging.stream,
+        delivery: headers.standard.delivery,
+        ordering: headers.standard.ordering,
+        stream: headers.arranging.stream,
         length,
     }
 }
@@ -151,23 +152,14 @@ fn hear(
 }
 
 fn sequence(plan: Plan, streams: SequencingStreams, item: ArrangingHeader) -> SequencingStreams
-    requires { SequencedReady plan streams }
-    ensures { result ≡ sequenced_by plan item streams }
+    requires { SequencedReady (Ok plan) streams }
+    ensures { result ≡ sequenced_by (Ok plan) item streams }
 {
-    match plan {
-        Plan::Refuse(_) => streams,
-        Plan::Unordered => streams,
-        Plan::Sequenced(sequencing) => {
-            let after = arranging::sequenced::arrange(
-                streams,
-                sequencing.at,
-                item.stream,
-                item.index,
-            );
-            after.streams
-        }
-        Plan::Ordered(_) => streams,
-    }
+    let Plan::Sequenced(sequencing) = plan else {
+        return streams;
+    };
+    let after = arranging::sequenced::arrange(streams, sequencing.at, item.stream, item.index);
+    after.streams
 }
 
 fn arrange(
@@ -180,45 +172,32 @@ fn arrange(
     item: ArrangingHeader,
     payload: &[u8],
 ) -> OrderingStreams
-    requires { RoomForAll f (lending_all streams index.old lengths.old held.old) × (length payload.now ≤ f) × OrderedReady plan streams index.old item }
-    ensures { LeavesAll (ordered_by plan f item payload.now (lending_all streams index.old lengths.old held.old)) result index.new lengths.new held.new }
+    requires { RoomForAll f (lending_all streams index.old lengths.old held.old) × (length payload.now ≤ f) × OrderedReady (Ok plan) streams index.old item }
+    ensures { LeavesAll (ordered_by (Ok plan) f item payload.now (lending_all streams index.old lengths.old held.old)) result index.new lengths.new held.new }
 {
-    match plan {
-        Plan::Refuse(_) => streams,
-        Plan::Unordered => streams,
-        Plan::Sequenced(_) => streams,
-        Plan::Ordered(planned) => {
-            let found = planned.plan;
-            arranging::ordered::perform(
-                streams,
-                f,
-                index,
-                lengths,
-                held,
-                planned.at,
-                found,
-                item.stream,
-                item.index,
-                payload,
-            )
-        }
-    }
+    let Plan::Ordered(ordering) = plan else {
+        return streams;
+    };
+    arranging::ordered::perform(
+        streams,
+        f,
+        index,
+        lengths,
+        held,
+        ordering.at,
+        Ok(ordering.answer),
+        item.stream,
+        item.index,
+        payload,
+    )
 }
 
 // What is handed out goes to the start of the output.
-fn hand_out(answer: Answer, payload: &[u8], output: &mut [u8])
+fn hand_out(answer: Result<Answer, Refusal>, payload: &[u8], output: &mut [u8])
     requires { length payload.now ≤ length output.old }
     ensures { output.new ≡ handed answer payload.now output.old }
 {
-    match answer {
-        Answer::Out(_) => {
-            copying::copy(payload, output);
-        }
-        Answer::Held => {}
-        Answer::Old => {}
-        Answer::Dropped => {}
-        Answer::Waiting => {}
-        Answer::Heartbeat => {}
-        Answer::Refused(_) => {}
+    if let Ok(Answer::Out(_)) = answer {
+        copying::copy(payload, output);
     }
 }

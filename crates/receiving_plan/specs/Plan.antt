@@ -1,5 +1,5 @@
 -- Document 01, module 7: what is to become of a packet that has come. "5, 7, 6" are tried before anything is written.
-use Rattle.std.specs.Prelude.{ℕ, Bool, true, false, cond, List, eqb}
+use Rattle.std.specs.Prelude.{ℕ, Bool, true, false, cond, List, eqb, Result, Ok, Err}
 use Rattle.terms.specs.Refusals.{number_of}
 use Rattle.terms.specs.declared.Refusal.TheVariants.{NoStream}
 use Rattle.packet_table.specs.declared.Headers.{Headers}
@@ -7,7 +7,7 @@ use Rattle.packet_table.specs.declared.ArrangingHeader.{ArrangingHeader}
 use Rattle.packet_table.specs.declared.OrderingGuarantee.{OrderingGuarantee}
 use Rattle.packet_table.specs.declared.OrderingGuarantee.TheVariants.{None, Sequenced as InSequence, Ordered as InOrder}
 use Rattle.ordering_plan.specs.declared.Arranged.{Arranged}
-use Rattle.ordering_plan.specs.declared.Arranged.TheVariants.{Out as GoesOut, Held as IsHeld, Old as IsOld, Refused as IsRefused}
+use Rattle.ordering_plan.specs.declared.Arranged.TheVariants.{Out as GoesOut, Held as IsHeld, Old as IsOld}
 use Rattle.sequencing.specs.Sequence.{sequence_of}
 use Rattle.sequencing.specs.declared.Sequenced.{Sequenced as Sequence}
 use Rattle.sequencing.specs.declared.Sequenced.TheVariants.{Out as Newest, Dropped as Passed}
@@ -19,39 +19,36 @@ use Rattle.arranging_plan.specs.declared.ordered.OrderingStreams.{OrderingStream
 use Rattle.arranging.specs.declared.sequenced.SequencingStreams.{SequencingStreams}
 use Rattle.receiving_plan.specs.declared.Item.{Item}
 use Rattle.receiving_plan.specs.declared.Answer.{Answer}
-use Rattle.receiving_plan.specs.declared.Answer.TheVariants.{Out, Held, Old, Dropped, Waiting, Heartbeat, Refused}
+use Rattle.receiving_plan.specs.declared.Answer.TheVariants.{Out, Held, Old, Dropped, Waiting, Heartbeat}
 use Rattle.receiving_plan.specs.declared.Plan.{Plan}
-use Rattle.receiving_plan.specs.declared.Plan.TheVariants.{Refuse, Unordered, Sequenced, Ordered}
+use Rattle.receiving_plan.specs.declared.Plan.TheVariants.{Unordered, Sequenced, Ordered}
+use Rattle.terms.specs.declared.Refusal.{Refusal}
 
 -- 7: "an item .. received names a fifth stream of its kind"; else what module 5 says
-unfoldable pub sequenced_plan : SequencingStreams → ArrangingHeader → Plan
+unfoldable pub sequenced_plan : SequencingStreams → ArrangingHeader → Result Plan Refusal
 sequenced_plan s i =
-    cond (eqb (place_of s.known i.stream) 4) (Refuse NoStream)
-    (Sequenced (record { at = place_of s.known i.stream; answer = sequence_of (stream_at s (place_of s.known i.stream)) i.index.0 }))
+    cond (eqb (place_of s.known i.stream) 4) (Err NoStream)
+    (Ok (Sequenced (record { at = place_of s.known i.stream; answer = sequence_of (stream_at s (place_of s.known i.stream)) i.index.0 })))
 
 -- 7 and 6 as `arranging` finds them; else what module 4 says
-abbrev pub ordered_as : Arranged → Planned → Plan
-ordered_as GoesOut p = Ordered p
-ordered_as (IsHeld k) p = Ordered p
-ordered_as IsOld p = Ordered p
-ordered_as (IsRefused why) p = Refuse why
+abbrev pub ordered_as : Result Arranged Refusal → Planned → Result Plan Refusal
+ordered_as (Ok a) p = Ok (Ordered (record { at = p.at; answer = a }))
+ordered_as (Err why) p = Err why
 
-abbrev pub ordered_plan : Planned → Plan
+abbrev pub ordered_plan : Planned → Result Plan Refusal
 ordered_plan p = ordered_as p.plan p
 
-abbrev pub plan_by : OrderingGuarantee → ArrangingHeader → OrderingStreams → List ℕ → SequencingStreams → Plan
-plan_by None i ordered index sequenced = Unordered
+abbrev pub plan_by : OrderingGuarantee → ArrangingHeader → OrderingStreams → List ℕ → SequencingStreams → Result Plan Refusal
+plan_by None i ordered index sequenced = Ok Unordered
 plan_by InSequence i ordered index sequenced = sequenced_plan sequenced i
 plan_by InOrder i ordered index sequenced = ordered_plan (plan_on ordered index i.stream i.index.0)
 
-unfoldable pub plan_of : Headers → OrderingStreams → List ℕ → SequencingStreams → Plan
+unfoldable pub plan_of : Headers → OrderingStreams → List ℕ → SequencingStreams → Result Plan Refusal
 plan_of h ordered index sequenced = plan_by h.standard.ordering h.arranging ordered index sequenced
 
-abbrev pub refuses : Plan → Bool
-refuses (Refuse why) = true
-refuses Unordered = false
-refuses (Sequenced q) = false
-refuses (Ordered p) = false
+abbrev pub refuses : Result Plan Refusal → Bool
+refuses (Err why) = true
+refuses (Ok p) = false
 
 -- what is told of an item
 abbrev pub sequenced_told : Sequence → Item → Answer
@@ -62,24 +59,26 @@ abbrev pub ordered_told : Arranged → Item → Answer
 ordered_told GoesOut item = Out item
 ordered_told (IsHeld k) item = Held
 ordered_told IsOld item = Old
-ordered_told (IsRefused why) item = Refused why
 
-abbrev pub told : Plan → Item → Answer
-told (Refuse why) item = Refused why
-told Unordered item = Out item
-told (Sequenced q) item = sequenced_told q.answer item
-told (Ordered p) item = ordered_told p.plan item
+abbrev pub told_of : Plan → Item → Answer
+told_of Unordered item = Out item
+told_of (Sequenced q) item = sequenced_told q.answer item
+told_of (Ordered p) item = ordered_told p.answer item
+
+abbrev pub told : Result Plan Refusal → Item → Result Answer Refusal
+told (Err why) item = Err why
+told (Ok p) item = Ok (told_of p item)
 
 abbrev pub item_of : Headers → ℕ → Item
 item_of h length =
     record { delivery = h.standard.delivery; ordering = h.standard.ordering; stream = h.arranging.stream; length = length }
 
 -- 01's number for each answer, 0 where nothing is refused
-abbrev pub number_of_answer : Answer → ℕ
-number_of_answer (Out item) = 0
-number_of_answer Held = 0
-number_of_answer Old = 0
-number_of_answer Dropped = 0
-number_of_answer Waiting = 0
-number_of_answer Heartbeat = 0
-number_of_answer (Refused why) = number_of why
+abbrev pub number_of_answer : Result Answer Refusal → ℕ
+number_of_answer (Ok (Out item)) = 0
+number_of_answer (Ok Held) = 0
+number_of_answer (Ok Old) = 0
+number_of_answer (Ok Dropped) = 0
+number_of_answer (Ok Waiting) = 0
+number_of_answer (Ok Heartbeat) = 0
+number_of_answer (Err why) = number_of why

@@ -5,7 +5,7 @@
 
 ghost use Rattle.std.specs.Prelude.{◌≡◌, ℕ, ◌≤◌, ◌<◌, length};
 ghost use Rattle.arranging_plan.specs.Ordered.{stream_at};
-ghost use Rattle.receiving_plan.specs.Plan.{plan_of, sequenced_plan, ordered_plan, told, sequenced_told, ordered_told};
+ghost use Rattle.receiving_plan.specs.Plan.{plan_of, sequenced_plan, ordered_plan, told_of, sequenced_told, ordered_told, told};
 
 use arranging::ordered::OrderingStreams;
 use arranging::sequenced::SequencingStreams;
@@ -37,7 +37,6 @@ pub enum Answer {
     // A fragment has joined its message, and more are to come.
     Waiting,
     Heartbeat,
-    Refused(Refusal),
 }
 
 // What becomes of a sequenced item, and the place of its stream.
@@ -47,13 +46,19 @@ pub struct Sequencing {
     pub answer: Sequenced,
 }
 
+// What becomes of an ordered item, and the place of its stream.
+#[derive(Clone, Copy)]
+pub struct Ordering {
+    pub at: usize,
+    pub answer: Arranged,
+}
+
 #[derive(Clone, Copy)]
 pub enum Plan {
-    Refuse(Refusal),
     // An unordered item is handed out at each arrival.
     Unordered,
     Sequenced(Sequencing),
-    Ordered(Planned),
+    Ordered(Ordering),
 }
 
 // Requires sound streams.
@@ -62,15 +67,13 @@ pub fn judge(
     sequenced: SequencingStreams,
     index: &[u32],
     headers: Headers,
-) -> Plan
+) -> Result<Plan, Refusal>
     requires { (sequenced.known.made ≤ 4) × (ordered.known.made ≤ 4) × (256 ≤ length index.now) × ((j : ℕ) → j < 4 → (stream_at ordered j).held ≤ 64) }
     ensures { result ≡ plan_of headers ordered index.now sequenced }
 {
-    let standard = headers.standard;
     let item = headers.arranging;
-    let ordering = standard.ordering;
-    match ordering {
-        OrderingGuarantee::None => Plan::Unordered,
+    match headers.standard.ordering {
+        OrderingGuarantee::None => Ok(Plan::Unordered),
         OrderingGuarantee::Sequenced => on_sequenced(sequenced, item),
         OrderingGuarantee::Ordered => {
             on_ordered(arranging_plan::ordered::judge(ordered, index, item.stream, item.index))
@@ -78,50 +81,45 @@ pub fn judge(
     }
 }
 
-// 7, or what module 5 says.
-fn on_sequenced(sequenced: SequencingStreams, item: ArrangingHeader) -> Plan
+// 7, or what module 5 says. The place is a number and no Option, since a new stream is made there.
+fn on_sequenced(sequenced: SequencingStreams, item: ArrangingHeader) -> Result<Plan, Refusal>
     requires { sequenced.known.made ≤ 4 }
     ensures { result ≡ sequenced_plan sequenced item }
 {
-    let known = sequenced.known;
-    let at = known.place(item.stream);
+    let at = sequenced.known.place(item.stream);
     if at == 4 {
-        return Plan::Refuse(Refusal::NoStream);
+        return Err(Refusal::NoStream);
     }
-    let stream = sequenced.at(at);
-    let after = sequencing::arrange(stream, item.index);
-    let answer = after.answer;
-    Plan::Sequenced(Sequencing { at, answer })
+    let after = sequencing::arrange(sequenced.at(at), item.index);
+    Ok(Plan::Sequenced(Sequencing {
+        at,
+        answer: after.answer,
+    }))
 }
 
 // 7 and 6, or what module 4 says.
-fn on_ordered(planned: Planned) -> Plan
+fn on_ordered(planned: Planned) -> Result<Plan, Refusal>
     ensures { result ≡ ordered_plan planned }
 {
-    let plan = planned.plan;
-    match plan {
-        Arranged::Out => Plan::Ordered(planned),
-        Arranged::Held(_) => Plan::Ordered(planned),
-        Arranged::Old => Plan::Ordered(planned),
-        Arranged::Refused(why) => Plan::Refuse(why),
-    }
+    let at = planned.at;
+    let answer = planned.plan?;
+    Ok(Plan::Ordered(Ordering { at, answer }))
 }
 
 // What is answered.
-pub fn tell(plan: Plan, item: Item) -> Answer
+pub fn tell(plan: Result<Plan, Refusal>, item: Item) -> Result<Answer, Refusal>
     ensures { result ≡ told plan item }
 {
+    Ok(tell_planned(plan?, item))
+}
+
+fn tell_planned(plan: Plan, item: Item) -> Answer
+    ensures { result ≡ told_of plan item }
+{
     match plan {
-        Plan::Refuse(why) => Answer::Refused(why),
         Plan::Unordered => Answer::Out(item),
-        Plan::Sequenced(sequencing) => {
-            let answer = sequencing.answer;
-            tell_sequenced(answer, item)
-        }
-        Plan::Ordered(planned) => {
-            let found = planned.plan;
-            tell_ordered(found, item)
-        }
+        Plan::Sequenced(sequencing) => tell_sequenced(sequencing.answer, item),
+        Plan::Ordered(ordering) => tell_ordered(ordering.answer, item),
     }
 }
 
@@ -134,13 +132,12 @@ fn tell_sequenced(answer: Sequenced, item: Item) -> Answer
     }
 }
 
-fn tell_ordered(plan: Arranged, item: Item) -> Answer
-    ensures { result ≡ ordered_told plan item }
+fn tell_ordered(answer: Arranged, item: Item) -> Answer
+    ensures { result ≡ ordered_told answer item }
 {
-    match plan {
+    match answer {
         Arranged::Out => Answer::Out(item),
         Arranged::Held(_) => Answer::Held,
         Arranged::Old => Answer::Old,
-        Arranged::Refused(why) => Answer::Refused(why),
     }
 }

@@ -2,243 +2,127 @@
 // until none. Only the program `replay` uses this crate.
 #![tactic(auto)]
 
-use ordering::Taken;
 use packet::{DeliveryGuarantee, OrderingGuarantee};
 use receiving::{Answer, Item};
 use replay_calls::Connection;
-use script::{print, turns};
+use script::{Hex, Refused, Stop};
 
-// An end, and how many items have come out of it so far.
+// The most items that an end can hold.
+const MOST_HELD: usize = 64;
+
+// So many ordered packets in a row, whose numbers and indices count on.
 #[derive(Clone, Copy)]
-pub struct Arrived {
-    pub connection: Connection,
-    pub out: u64,
+pub struct Packets {
+    pub count: u16,
+    pub number: u16,
+    pub acked: u16,
+    pub field: u32,
+    pub index: u16,
+    pub stream: u8,
 }
 
-// Tag 71: one datagram, whose items are told.
-pub fn receive(
-    before: Connection,
-    payloads: &[u8],
-    joined: &mut [u8],
-    held: &mut [u8],
-    datagram: &[u8],
-    output: &mut [u8],
-) -> Connection {
-    let start = Arrived {
-        connection: before,
-        out: 0,
-    };
-    let after = arrive(start, payloads, joined, held, datagram, output, true);
-    print::dash_where(after.out == 0);
-    after.connection
-}
-
-// Tag 77: so many ordered packets in a row, of which only the items are counted.
-pub fn feed(
-    before: Connection,
-    payloads: &[u8],
-    joined: &mut [u8],
-    held: &mut [u8],
-    body: &[u8],
-    output: &mut [u8],
-) -> Connection {
-    let count = script::number(body, 0);
-    let mut after = Arrived {
-        connection: before,
-        out: 0,
-    };
-    let mut i: u16 = 0;
-    while i < count {
-        let datagram = ordered(body, i);
-        after = arrive(after, payloads, joined, held, &datagram, output, false);
-        i += 1;
-    }
-    print::say(b" % out %", [count as u64, after.out, 0, 0]);
-    after.connection
-}
-
-// A (0,1,2) datagram with the numbers of the body, counted on by i, and its index as payload.
-fn ordered(body: &[u8], i: u16) -> [u8; 18] {
-    let number = std::num::wrapping_add_u16(script::number(body, 2), i);
-    let index = std::num::wrapping_add_u16(script::number(body, 10), i);
-    let high = script::high(index);
-    let low = script::low(index);
-    [
-        0x54,
-        0x09,
-        0,
-        1,
-        2,
-        script::high(number),
-        script::low(number),
-        script::byte(body, 4),
-        script::byte(body, 5),
-        script::byte(body, 6),
-        script::byte(body, 7),
-        script::byte(body, 8),
-        script::byte(body, 9),
-        high,
-        low,
-        script::byte(body, 12),
-        high,
-        low,
-    ]
-}
-
-fn arrive(
-    before: Arrived,
-    payloads: &[u8],
-    joined: &mut [u8],
-    held: &mut [u8],
-    datagram: &[u8],
-    output: &mut [u8],
-    told: bool,
-) -> Arrived {
-    let next = come(before, payloads, joined, held, datagram, output, told);
-    let stream = next.stream;
-    let after = next.arrived;
-    takes(after, payloads, joined, held, output, stream, told)
-}
-
-// What a datagram itself has left, and of which ordered stream is then to be taken: NO_STREAM where nothing of one came out.
-#[derive(Clone, Copy)]
-struct Next {
-    arrived: Arrived,
-    stream: usize,
-}
-
-const NO_STREAM: usize = 256;
-
-fn come(
-    before: Arrived,
-    payloads: &[u8],
-    joined: &mut [u8],
-    held: &mut [u8],
-    datagram: &[u8],
-    output: &mut [u8],
-    told: bool,
-) -> Next {
-    let start = before.connection;
-    let tables = start.tables;
-    let heard = replay_calls::receive(start, tables, payloads, joined, held, datagram, output);
-    let answer = heard.answer;
-    let connection = heard.connection;
-    let came = come_out(answer, output, told);
-    let out = std::num::wrapping_add_u64(before.out, came);
-    Next {
-        arrived: Arrived { connection, out },
-        stream: stream_of(answer),
-    }
-}
-
-// How many items the datagram itself hands out. Where they are told a refusal stands for the list.
-fn come_out(answer: Answer, output: &[u8], told: bool) -> u64 {
-    match answer {
-        Answer::Out(item) => {
-            if told {
-                tell(item, output);
-            }
-            1
+// Tags 71 and 78: one datagram, whose items are told.
+pub fn receive(connection: &mut Connection, datagram: &[u8], out: &impl Print) -> Result<(), Stop> {
+    match connection.receive(datagram) {
+        Ok(Answer::Out(first)) => tell_all(connection, first, out)?,
+        Ok(_) => print!(out; " -")?,
+        Err(why) => {
+            let refused = Refused(why);
+            print!(out; " {refused}")?;
         }
-        Answer::Refused(why) => {
-            if told {
-                print::say(b" refused %", [terms::number(why) as u64, 0, 0, 0]);
-            }
-            told as u64
-        }
-        Answer::Held | Answer::Old | Answer::Dropped | Answer::Waiting | Answer::Heartbeat => 0,
     }
+    Ok(())
 }
 
-fn tell(item: Item, output: &[u8]) {
-    let delivery = item.delivery;
-    let ordering = item.ordering;
-    tell_delivery(delivery);
-    tell_ordering(ordering, item.stream);
-    print::bytes(script::part(output, 0, item.length));
-}
-
-fn tell_delivery(delivery: DeliveryGuarantee) {
-    match delivery {
-        DeliveryGuarantee::Unreliable => print::text(b" unreliable"),
-        DeliveryGuarantee::Reliable => print::text(b" reliable"),
+fn tell_all(connection: &mut Connection, first: Item, out: &impl Print) -> Result<(), Stop> {
+    tell(first, &connection.output, out)?;
+    for _ in 0..MOST_HELD {
+        let Some(item) = further(connection, first) else {
+            break;
+        };
+        tell(item, &connection.output, out)?;
     }
+    Ok(())
 }
 
-fn tell_ordering(ordering: OrderingGuarantee, stream: u8) {
-    match ordering {
-        OrderingGuarantee::None => print::text(b",none,-,"),
-        OrderingGuarantee::Sequenced => print::say(b",sequenced,%,", [stream as u64, 0, 0, 0]),
-        OrderingGuarantee::Ordered => print::say(b",ordered,%,", [stream as u64, 0, 0, 0]),
-    }
-}
-
-fn stream_of(answer: Answer) -> usize {
-    let Answer::Out(item) = answer else {
-        return NO_STREAM;
+// What an ordered stream lets out behind its first item.
+fn further(connection: &mut Connection, first: Item) -> Option<Item> {
+    let OrderingGuarantee::Ordered = first.ordering else {
+        return None;
     };
-    let ordering = item.ordering;
-    let OrderingGuarantee::Ordered = ordering else {
-        return NO_STREAM;
+    let Ok(Some(length)) = connection.take(first.stream) else {
+        return None;
     };
-    item.stream as usize
+    Some(Item { length, ..first })
 }
 
-// Takes until nothing comes, at most the 64 that can be held.
-fn takes(
-    before: Arrived,
-    payloads: &[u8],
-    joined: &[u8],
-    held: &mut [u8],
-    output: &mut [u8],
-    stream: usize,
-    told: bool,
-) -> Arrived {
-    let mut after = before;
-    let mut left = most(stream);
-    while 0 < left {
-        let out = after.out;
-        after = take_one(after, payloads, joined, held, output, stream, told);
-        left = turns::fewer(left, after.out != out);
+fn tell(item: Item, output: &[u8], out: &impl Print) -> Result<(), Stop> {
+    let delivery = match item.delivery {
+        DeliveryGuarantee::Unreliable => "unreliable",
+        DeliveryGuarantee::Reliable => "reliable",
+    };
+    let stream = item.stream;
+    let payload = Hex(script::front(output, item.length));
+    match item.ordering {
+        OrderingGuarantee::None => print!(out; " {delivery},none,-,{payload}")?,
+        OrderingGuarantee::Sequenced => print!(out; " {delivery},sequenced,{stream},{payload}")?,
+        OrderingGuarantee::Ordered => print!(out; " {delivery},ordered,{stream},{payload}")?,
     }
-    after
+    Ok(())
 }
 
-fn most(stream: usize) -> usize {
-    if stream < NO_STREAM {
-        return 65;
+// Tag 77: of these the items are counted.
+pub fn feed(connection: &mut Connection, packets: Packets, out: &impl Print) -> Result<(), Stop> {
+    let count = packets.count;
+    let mut items = 0u64;
+    for i in 0..count {
+        items = items.saturating_add(come_out(connection, &packets.datagram(i)));
     }
-    0
+    print!(out; " {count} out {items}")?;
+    Ok(())
 }
 
-fn take_one(
-    before: Arrived,
-    payloads: &[u8],
-    joined: &[u8],
-    held: &mut [u8],
-    output: &mut [u8],
-    stream: usize,
-    told: bool,
-) -> Arrived {
-    let start = before.connection;
-    let id = script::octet(stream);
-    let tables = start.tables;
-    let took = replay_calls::take(start, tables, payloads, joined, held, id, output);
-    let answer = took.answer;
-    let connection = took.connection;
-    Arrived {
-        connection,
-        out: std::num::wrapping_add_u64(before.out, taken(answer, id, output, told)),
-    }
-}
-
-fn taken(answer: Taken, stream: u8, output: &[u8], told: bool) -> u64 {
-    let Taken::Item(length) = answer else {
+// How many items a datagram lets out.
+fn come_out(connection: &mut Connection, datagram: &[u8]) -> u64 {
+    let Ok(Answer::Out(first)) = connection.receive(datagram) else {
         return 0;
     };
-    if told {
-        print::say(b" reliable,ordered,%,", [stream as u64, 0, 0, 0]);
-        print::bytes(script::part(output, 0, length));
+    let mut items = 1u64;
+    for _ in 0..MOST_HELD {
+        if further(connection, first).is_none() {
+            break;
+        }
+        items = items.saturating_add(1);
     }
-    1
+    items
+}
+
+impl Packets {
+    // The (0,1,2) datagram at a place, with its index as payload.
+    fn datagram(self, i: u16) -> [u8; 18] {
+        let [number_high, number_low] = self.number.wrapping_add(i).to_be_bytes();
+        let [acked_high, acked_low] = self.acked.to_be_bytes();
+        let [a, b, c, d] = self.field.to_be_bytes();
+        let [high, low] = self.index.wrapping_add(i).to_be_bytes();
+        [
+            0x54,
+            0x09,
+            0,
+            1,
+            2,
+            number_high,
+            number_low,
+            acked_high,
+            acked_low,
+            a,
+            b,
+            c,
+            d,
+            high,
+            low,
+            self.stream,
+            high,
+            low,
+        ]
+    }
 }

@@ -1,457 +1,232 @@
-// The calls of a link over one end whose counters and small tables go by value: each lends what it has and what it is lent,
-// and hands back the end as the call leaves it. Only the parts of the program `replay` use this crate.
+// One end of a link, with all that it lends to the calls of the crate `link`. Only the parts of the program `replay` use this
+// crate.
 #![tactic(auto)]
 
-pub mod tables;
-
-use acknowledgment::DroppedPackets;
-use datagrams::further::Further;
 use ends::End;
 use flight::SentPacket;
-use link::fresh::Fresh;
-use link::status::Asked;
-use ordering::Taken;
+use flight::lost::Dropped;
+use link::status::Status;
 use packet::{DeliveryGuarantee, OrderingGuarantee};
+use receiving::Answer;
+use sending::Written;
 use serial::PacketNumber;
-use tables::Tables;
-use terms::Sizes;
+use terms::{Refusal, Sizes};
 
-#[derive(Clone, Copy)]
+// The counters of an end, its tables and rooms, as long as a link asks for, and what its last call wrote.
+#[derive(Drop)]
 pub struct Connection {
-    pub made: bool,
-    pub sizes: Sizes,
-    pub end: End,
-    pub tables: Tables,
-    // How many datagrams its log has, and whether there was one that it had no room for.
-    pub logged: usize,
-    pub full: bool,
-}
-
-#[derive(Clone, Copy)]
-pub struct Begun {
-    pub connection: Connection,
-    pub answer: Fresh,
-}
-
-#[derive(Clone, Copy)]
-pub struct Heard {
-    pub connection: Connection,
-    pub answer: receiving::Answer,
-}
-
-#[derive(Clone, Copy)]
-pub struct Took {
-    pub connection: Connection,
-    pub answer: Taken,
-}
-
-#[derive(Clone, Copy)]
-pub struct Sent {
-    pub connection: Connection,
-    pub answer: sending::Answer,
-}
-
-#[derive(Clone, Copy)]
-pub struct Lost {
-    pub connection: Connection,
-    pub answer: DroppedPackets,
-}
-
-// An end that was never made.
-pub fn none() -> Connection {
-    Connection {
-        made: false,
-        sizes: Sizes {
-            fragment_size: 0,
-            reassembly_slots: 0,
-            max_fragments: 0,
-            packets_in_flight: 0,
-            version: 0,
-        },
-        end: ends::fresh(),
-        tables: tables::none(),
-        logged: 0,
-        full: false,
-    }
-}
-
-// The same log, and another state.
-fn left(before: Connection, end: End, tables: Tables) -> Connection {
-    let sizes = before.sizes;
-    Connection {
-        made: before.made,
-        sizes,
-        end,
-        tables,
-        logged: before.logged,
-        full: before.full,
-    }
-}
-
-pub fn new(
     sizes: Sizes,
-    tables: Tables,
-    payloads: &[u8],
-    joined: &[u8],
-    held: &[u8],
-    output: &[u8],
-) -> Begun {
-    let mut received = tables.received;
-    let mut number = tables.number;
-    let mut slots = tables.slots;
-    let records = tables.records;
-    let entry = tables.entry;
-    let header = tables.header;
-    let index = tables.index;
-    let lengths = tables.lengths;
-    let begun = link::new(
-        sizes,
-        &mut received,
-        &mut number,
-        &records,
-        payloads,
-        &mut slots,
-        &entry,
-        &header,
-        joined,
-        &index,
-        &lengths,
-        held,
-        output,
-    );
-    let end = begun.end;
-    let answer = begun.answer;
-    let tables = Tables {
-        received,
-        number,
-        records,
-        slots,
-        entry,
-        header,
-        index,
-        lengths,
-    };
-    Begun {
-        connection: Connection {
-            made: true,
+    pub end: End,
+    received: [u32; 33],
+    number: [u32; 256],
+    records: [u32; 256],
+    payloads: [u8; 524288],
+    slots: [u32; 64],
+    entry: [u64; 64],
+    header: [u64; 64],
+    joined: [u8; 262144],
+    index: [u32; 256],
+    lengths: [u16; 256],
+    held: [u8; 65536],
+    pub output: [u8; 16401],
+}
+
+impl Connection {
+    pub fn new(sizes: Sizes) -> Result<Connection, Refusal> {
+        let mut connection = Connection {
             sizes,
-            end,
-            tables,
-            logged: 0,
-            full: false,
-        },
-        answer,
+            end: ends::fresh(),
+            received: [0; 33],
+            number: [0; 256],
+            records: [0; 256],
+            payloads: [0; 524288],
+            slots: [0; 64],
+            entry: [0; 64],
+            header: [0; 64],
+            joined: [0; 262144],
+            index: [0; 256],
+            lengths: [0; 256],
+            held: [0; 65536],
+            output: [0; 16401],
+        };
+        connection.begin()?;
+        Ok(connection)
     }
-}
 
-pub fn receive(
-    before: Connection,
-    tables: Tables,
-    payloads: &[u8],
-    joined: &mut [u8],
-    held: &mut [u8],
-    datagram: &[u8],
-    output: &mut [u8],
-) -> Heard {
-    let mut received = tables.received;
-    let mut number = tables.number;
-    let records = tables.records;
-    let mut slots = tables.slots;
-    let mut entry = tables.entry;
-    let mut header = tables.header;
-    let mut index = tables.index;
-    let mut lengths = tables.lengths;
-    let after = link::receive(
-        before.sizes,
-        before.end,
-        &mut received,
-        &mut number,
-        &records,
-        payloads,
-        &mut slots,
-        &mut entry,
-        &mut header,
-        joined,
-        &mut index,
-        &mut lengths,
-        held,
-        datagram,
-        output,
-    );
-    let end = after.end;
-    let answer = after.answer;
-    let tables = Tables {
-        received,
-        number,
-        records,
-        slots,
-        entry,
-        header,
-        index,
-        lengths,
-    };
-    Heard {
-        connection: left(before, end, tables),
-        answer,
+    fn begin(&mut self) -> Result<(), Refusal> {
+        let begun = link::new(
+            self.sizes,
+            &mut self.received,
+            &mut self.number,
+            &self.records,
+            &self.payloads,
+            &mut self.slots,
+            &self.entry,
+            &self.header,
+            &self.joined,
+            &self.index,
+            &self.lengths,
+            &self.held,
+            &self.output,
+        );
+        self.end = begun.end;
+        begun.answer
     }
-}
 
-pub fn take(
-    before: Connection,
-    tables: Tables,
-    payloads: &[u8],
-    joined: &[u8],
-    held: &mut [u8],
-    stream: u8,
-    output: &mut [u8],
-) -> Took {
-    let received = tables.received;
-    let number = tables.number;
-    let records = tables.records;
-    let slots = tables.slots;
-    let entry = tables.entry;
-    let header = tables.header;
-    let mut index = tables.index;
-    let mut lengths = tables.lengths;
-    let after = link::take(
-        before.sizes,
-        before.end,
-        &received,
-        &number,
-        &records,
-        payloads,
-        &slots,
-        &entry,
-        &header,
-        joined,
-        &mut index,
-        &mut lengths,
-        held,
-        stream,
-        output,
-    );
-    let end = after.end;
-    let answer = after.answer;
-    let tables = Tables {
-        received,
-        number,
-        records,
-        slots,
-        entry,
-        header,
-        index,
-        lengths,
-    };
-    Took {
-        connection: left(before, end, tables),
-        answer,
+    pub fn receive(&mut self, datagram: &[u8]) -> Result<Answer, Refusal> {
+        let after = link::receive(
+            self.sizes,
+            self.end,
+            &mut self.received,
+            &mut self.number,
+            &self.records,
+            &self.payloads,
+            &mut self.slots,
+            &mut self.entry,
+            &mut self.header,
+            &mut self.joined,
+            &mut self.index,
+            &mut self.lengths,
+            &mut self.held,
+            datagram,
+            &mut self.output,
+        );
+        self.end = after.end;
+        after.answer
     }
-}
 
-pub fn send(
-    before: Connection,
-    tables: Tables,
-    payloads: &mut [u8],
-    joined: &[u8],
-    held: &[u8],
-    delivery: DeliveryGuarantee,
-    ordering: OrderingGuarantee,
-    stream: u8,
-    payload: &[u8],
-    output: &mut [u8],
-) -> Sent {
-    let received = tables.received;
-    let mut number = tables.number;
-    let mut records = tables.records;
-    let slots = tables.slots;
-    let entry = tables.entry;
-    let header = tables.header;
-    let index = tables.index;
-    let lengths = tables.lengths;
-    let after = link::send(
-        before.sizes,
-        before.end,
-        &received,
-        &mut number,
-        &mut records,
-        payloads,
-        &slots,
-        &entry,
-        &header,
-        joined,
-        &index,
-        &lengths,
-        held,
-        delivery,
-        ordering,
-        stream,
-        payload,
-        output,
-    );
-    let end = after.end;
-    let answer = after.answer;
-    let tables = Tables {
-        received,
-        number,
-        records,
-        slots,
-        entry,
-        header,
-        index,
-        lengths,
-    };
-    Sent {
-        connection: left(before, end, tables),
-        answer,
+    pub fn take(&mut self, stream: u8) -> Result<Option<usize>, Refusal> {
+        let after = link::take(
+            self.sizes,
+            self.end,
+            &self.received,
+            &self.number,
+            &self.records,
+            &self.payloads,
+            &self.slots,
+            &self.entry,
+            &self.header,
+            &self.joined,
+            &mut self.index,
+            &mut self.lengths,
+            &mut self.held,
+            stream,
+            &mut self.output,
+        );
+        self.end = after.end;
+        after.answer
     }
-}
 
-pub fn resend(
-    before: Connection,
-    tables: Tables,
-    payloads: &mut [u8],
-    joined: &[u8],
-    held: &[u8],
-    sent: SentPacket,
-    payload: &[u8],
-    output: &mut [u8],
-) -> Sent {
-    let received = tables.received;
-    let mut number = tables.number;
-    let mut records = tables.records;
-    let slots = tables.slots;
-    let entry = tables.entry;
-    let header = tables.header;
-    let index = tables.index;
-    let lengths = tables.lengths;
-    let after = link::resend(
-        before.sizes,
-        before.end,
-        &received,
-        &mut number,
-        &mut records,
-        payloads,
-        &slots,
-        &entry,
-        &header,
-        joined,
-        &index,
-        &lengths,
-        held,
-        sent,
-        payload,
-        output,
-    );
-    let end = after.end;
-    let answer = after.answer;
-    let tables = Tables {
-        received,
-        number,
-        records,
-        slots,
-        entry,
-        header,
-        index,
-        lengths,
-    };
-    Sent {
-        connection: left(before, end, tables),
-        answer,
+    pub fn send(
+        &mut self,
+        delivery: DeliveryGuarantee,
+        ordering: OrderingGuarantee,
+        stream: u8,
+        payload: &[u8],
+    ) -> Result<Written, Refusal> {
+        let after = link::send(
+            self.sizes,
+            self.end,
+            &self.received,
+            &mut self.number,
+            &mut self.records,
+            &mut self.payloads,
+            &self.slots,
+            &self.entry,
+            &self.header,
+            &self.joined,
+            &self.index,
+            &self.lengths,
+            &self.held,
+            delivery,
+            ordering,
+            stream,
+            payload,
+            &mut self.output,
+        );
+        self.end = after.end;
+        after.answer
     }
-}
 
-// A further fragment changes nothing but the output.
-pub fn fragment(
-    c: Connection,
-    tables: Tables,
-    payloads: &[u8],
-    joined: &[u8],
-    held: &[u8],
-    packet: PacketNumber,
-    j: usize,
-    output: &mut [u8],
-) -> Further {
-    let received = tables.received;
-    let number = tables.number;
-    let records = tables.records;
-    let slots = tables.slots;
-    let entry = tables.entry;
-    let header = tables.header;
-    let index = tables.index;
-    let lengths = tables.lengths;
-    link::fragment(
-        c.sizes, c.end, &received, &number, &records, payloads, &slots, &entry, &header, joined,
-        &index, &lengths, held, packet, j, output,
-    )
-}
-
-pub fn dropped(
-    before: Connection,
-    tables: Tables,
-    payloads: &[u8],
-    joined: &[u8],
-    held: &[u8],
-    output: &mut [u8],
-) -> Lost {
-    let end = before.end;
-    let received = tables.received;
-    let mut number = tables.number;
-    let records = tables.records;
-    let slots = tables.slots;
-    let entry = tables.entry;
-    let header = tables.header;
-    let index = tables.index;
-    let lengths = tables.lengths;
-    let answer = link::dropped(
-        before.sizes,
-        end,
-        &received,
-        &mut number,
-        &records,
-        payloads,
-        &slots,
-        &entry,
-        &header,
-        joined,
-        &index,
-        &lengths,
-        held,
-        output,
-    );
-    let tables = Tables {
-        received,
-        number,
-        records,
-        slots,
-        entry,
-        header,
-        index,
-        lengths,
-    };
-    Lost {
-        connection: left(before, end, tables),
-        answer,
+    pub fn resend(&mut self, sent: SentPacket, payload: &[u8]) -> Result<Written, Refusal> {
+        let after = link::resend(
+            self.sizes,
+            self.end,
+            &self.received,
+            &mut self.number,
+            &mut self.records,
+            &mut self.payloads,
+            &self.slots,
+            &self.entry,
+            &self.header,
+            &self.joined,
+            &self.index,
+            &self.lengths,
+            &self.held,
+            sent,
+            payload,
+            &mut self.output,
+        );
+        self.end = after.end;
+        after.answer
     }
-}
 
-pub fn report(
-    c: Connection,
-    tables: Tables,
-    payloads: &[u8],
-    joined: &[u8],
-    held: &[u8],
-    output: &[u8],
-) -> Asked {
-    let received = tables.received;
-    let number = tables.number;
-    let records = tables.records;
-    let slots = tables.slots;
-    let entry = tables.entry;
-    let header = tables.header;
-    let index = tables.index;
-    let lengths = tables.lengths;
-    link::report(
-        c.sizes, c.end, &received, &number, &records, payloads, &slots, &entry, &header, joined,
-        &index, &lengths, held, output,
-    )
+    pub fn fragment(&mut self, packet: PacketNumber, j: usize) -> Result<Option<usize>, Refusal> {
+        link::fragment(
+            self.sizes,
+            self.end,
+            &self.received,
+            &self.number,
+            &self.records,
+            &self.payloads,
+            &self.slots,
+            &self.entry,
+            &self.header,
+            &self.joined,
+            &self.index,
+            &self.lengths,
+            &self.held,
+            packet,
+            j,
+            &mut self.output,
+        )
+    }
+
+    pub fn dropped(&mut self) -> Result<Option<Dropped>, Refusal> {
+        link::dropped(
+            self.sizes,
+            self.end,
+            &self.received,
+            &mut self.number,
+            &self.records,
+            &self.payloads,
+            &self.slots,
+            &self.entry,
+            &self.header,
+            &self.joined,
+            &self.index,
+            &self.lengths,
+            &self.held,
+            &mut self.output,
+        )
+    }
+
+    pub fn report(&self) -> Result<Status, Refusal> {
+        link::report(
+            self.sizes,
+            self.end,
+            &self.received,
+            &self.number,
+            &self.records,
+            &self.payloads,
+            &self.slots,
+            &self.entry,
+            &self.header,
+            &self.joined,
+            &self.index,
+            &self.lengths,
+            &self.held,
+            &self.output,
+        )
+    }
 }

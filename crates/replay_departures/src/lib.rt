@@ -5,138 +5,99 @@
 pub mod log;
 pub mod losses;
 
-use datagrams::further::Further;
+use log::Log;
 use packet::{
-    AckedPacketHeader, ArrangingHeader, Built, DeliveryGuarantee, FragmentHeader, Headers,
-    OrderingGuarantee, PacketType, StandardHeader, table,
+    AckedPacketHeader, ArrangingHeader, DeliveryGuarantee, FragmentHeader, Headers,
+    OrderingGuarantee, PacketType, StandardHeader,
 };
 use replay_calls::Connection;
-use script::print;
-use sending::Answer;
+use script::{Hex, Refused, Stop};
+use sending::Written;
 use serial::{ItemId, PacketNumber};
+use terms::Refusal;
 
 // laminar's own version word.
 pub const VERSION: u16 = 21513;
 
-// Tag 72: an item goes, as one datagram or as its fragments.
-pub fn send(
-    before: Connection,
-    payloads: &mut [u8],
-    joined: &[u8],
-    held: &[u8],
-    log: &mut [u8],
-    body: &[u8],
-    output: &mut [u8],
-) -> Connection {
-    let delivery = delivery_of(script::byte(body, 0));
-    let ordering = table::ordering_of(script::byte(body, 1));
-    let stream = script::stream(body, 2);
-    let payload = script::rest(body, 4);
-    let tables = before.tables;
-    let sent = replay_calls::send(
-        before, tables, payloads, joined, held, delivery, ordering, stream, payload, output,
-    );
-    let answer = sent.answer;
-    written(sent.connection, payloads, joined, held, log, output, answer)
+// An item that goes.
+#[derive(Clone, Copy)]
+pub struct Outgoing<'a> {
+    pub delivery: DeliveryGuarantee,
+    pub ordering: OrderingGuarantee,
+    pub stream: u8,
+    pub payload: &'a [u8],
 }
 
-fn delivery_of(byte: u8) -> DeliveryGuarantee {
-    if byte == 0 {
-        return DeliveryGuarantee::Unreliable;
-    }
-    DeliveryGuarantee::Reliable
+// So many empty items in a row, each acknowledged before the next by a packet of this number.
+#[derive(Clone, Copy)]
+pub struct Items {
+    pub count: u16,
+    pub ordering: OrderingGuarantee,
+    pub stream: u8,
+    pub number: u16,
+}
+
+// Tag 72: an item goes, as one datagram or as its fragments.
+pub fn send(
+    connection: &mut Connection,
+    log: &mut Log,
+    item: Outgoing<'_>,
+    out: &impl Print,
+) -> Result<(), Stop> {
+    let answer = connection.send(item.delivery, item.ordering, item.stream, item.payload);
+    written(connection, log, answer, out)
 }
 
 // What a send has written, and its further fragments; or its refusal.
-pub fn written(
-    before: Connection,
-    payloads: &[u8],
-    joined: &[u8],
-    held: &[u8],
-    log: &mut [u8],
-    output: &mut [u8],
-    answer: Answer,
-) -> Connection {
+fn written(
+    connection: &mut Connection,
+    log: &mut Log,
+    answer: Result<Written, Refusal>,
+    out: &impl Print,
+) -> Result<(), Stop> {
     match answer {
-        Answer::Datagram(first) => {
-            let number = first.number;
-            let after = keep(before, log, output, first.length);
-            further(
-                after,
-                payloads,
-                joined,
-                held,
-                log,
-                output,
-                number,
-                first.datagrams,
-            )
+        Ok(first) => {
+            keep(script::front(&connection.output, first.length), log, out)?;
+            for j in 1..first.datagrams {
+                fragment(connection, log, first.number, j, out)?;
+            }
         }
-        Answer::Refused(why) => {
-            print::say(b" refused %", [terms::number(why) as u64, 0, 0, 0]);
-            before
+        Err(why) => {
+            let refused = Refused(why);
+            print!(out; " {refused}")?;
         }
     }
-}
-
-// Tells a datagram at the start of the output, and puts it into the log.
-fn keep(before: Connection, log: &mut [u8], output: &[u8], length: usize) -> Connection {
-    let datagram = script::part(output, 0, length);
-    print::text(b" ");
-    print::bytes(datagram);
-    let count = before.logged;
-    let room = log::push(log, count, datagram);
-    let mut after = before;
-    after.logged = script::sum(count, room as usize);
-    after.full = before.full || !room;
-    after
-}
-
-fn further(
-    before: Connection,
-    payloads: &[u8],
-    joined: &[u8],
-    held: &[u8],
-    log: &mut [u8],
-    output: &mut [u8],
-    number: PacketNumber,
-    datagrams: usize,
-) -> Connection {
-    let mut after = before;
-    let mut left = script::difference(datagrams, 1);
-    while 0 < left {
-        let j = script::difference(datagrams, left);
-        after = fragment(after, payloads, joined, held, log, output, number, j);
-        left -= 1;
-    }
-    after
+    Ok(())
 }
 
 fn fragment(
-    before: Connection,
-    payloads: &[u8],
-    joined: &[u8],
-    held: &[u8],
-    log: &mut [u8],
-    output: &mut [u8],
+    connection: &mut Connection,
+    log: &mut Log,
     number: PacketNumber,
     j: usize,
-) -> Connection {
-    let tables = before.tables;
-    let answer = replay_calls::fragment(before, tables, payloads, joined, held, number, j, output);
-    let Further::Datagram(length) = answer else {
-        return before;
-    };
-    keep(before, log, output, length)
+    out: &impl Print,
+) -> Result<(), Stop> {
+    match connection.fragment(number, j) {
+        Ok(Some(length)) => keep(script::front(&connection.output, length), log, out),
+        Ok(None) | Err(_) => Ok(()),
+    }
+}
+
+// Tells a datagram, and puts it into the log.
+fn keep(datagram: &[u8], log: &mut Log, out: &impl Print) -> Result<(), Stop> {
+    let bytes = Hex(datagram);
+    print!(out; " {bytes}")?;
+    log.push(datagram);
+    Ok(())
 }
 
 // Tag 75.
-pub fn heartbeat(before: Connection, log: &mut [u8], output: &mut [u8]) -> Connection {
-    let built = packet::build(VERSION, heartbeat_headers(), b"", output);
-    let Built::Datagram(length) = built else {
-        return before;
-    };
-    keep(before, log, output, length)
+pub fn heartbeat(log: &mut Log, out: &impl Print) -> Result<(), Stop> {
+    let mut output = [0; 5];
+    match packet::build(VERSION, heartbeat_headers(), b"", &mut output) {
+        Ok(length) => keep(script::front(&output, length), log, out),
+        Err(_) => Ok(()),
+    }
 }
 
 fn heartbeat_headers() -> Headers {
@@ -163,92 +124,42 @@ fn heartbeat_headers() -> Headers {
     }
 }
 
-// Tag 76: so many empty items in a row, each acknowledged before the next. The last datagram is told.
-pub fn cycle(
-    before: Connection,
-    payloads: &mut [u8],
-    joined: &mut [u8],
-    held: &mut [u8],
-    body: &[u8],
-    output: &mut [u8],
-) -> Connection {
-    let count = script::number(body, 0);
-    print::say(b" %", [count as u64, 0, 0, 0]);
-    print::dash_where(count == 0);
-    let mut after = before;
-    let mut left = count;
-    while 0 < left {
-        left -= 1;
-        after = cycle_one(after, payloads, joined, held, body, output, left);
+// Tag 76. The last datagram is told.
+pub fn cycle(connection: &mut Connection, items: Items, out: &impl Print) -> Result<(), Stop> {
+    let count = items.count;
+    print!(out; " {count}")?;
+    if count == 0 {
+        print!(out; " -")?;
     }
-    after
-}
-
-fn cycle_one(
-    before: Connection,
-    payloads: &mut [u8],
-    joined: &mut [u8],
-    held: &mut [u8],
-    body: &[u8],
-    output: &mut [u8],
-    left: u16,
-) -> Connection {
-    let number = before.end.acks.sequence_number;
-    let sent = send_empty(before, payloads, joined, held, body, output, left);
-    let datagram = acknowledging(script::number(body, 5), number);
-    let tables = sent.tables;
-    let heard = replay_calls::receive(sent, tables, payloads, joined, held, &datagram, output);
-    heard.connection
-}
-
-fn send_empty(
-    before: Connection,
-    payloads: &mut [u8],
-    joined: &[u8],
-    held: &[u8],
-    body: &[u8],
-    output: &mut [u8],
-    left: u16,
-) -> Connection {
-    let ordering = table::ordering_of(script::byte(body, 2));
-    let stream = script::stream(body, 3);
-    let reliable = DeliveryGuarantee::Reliable;
-    let tables = before.tables;
-    let sent = replay_calls::send(
-        before, tables, payloads, joined, held, reliable, ordering, stream, b"", output,
-    );
-    let answer = sent.answer;
-    tell_last(answer, output, left);
-    sent.connection
-}
-
-fn tell_last(answer: Answer, output: &[u8], left: u16) {
-    match answer {
-        Answer::Datagram(written) => {
-            if left == 0 {
-                print::text(b" ");
-                print::bytes(script::part(output, 0, written.length));
+    for left in (0..count).rev() {
+        let number = connection.end.acks.sequence_number;
+        let sent = connection.send(
+            DeliveryGuarantee::Reliable,
+            items.ordering,
+            items.stream,
+            b"",
+        );
+        match sent {
+            Ok(written) if left == 0 => {
+                let bytes = Hex(script::front(&connection.output, written.length));
+                print!(out; " {bytes}")?;
+            }
+            Ok(_) => {}
+            Err(why) => {
+                let refused = Refused(why);
+                print!(out; " {refused}")?;
             }
         }
-        Answer::Refused(why) => print::say(b" refused %", [terms::number(why) as u64, 0, 0, 0]),
+        let _ = connection.receive(&acknowledging(items.number, number));
     }
+    Ok(())
 }
 
 // A (0,1,0) datagram without payload.
 fn acknowledging(number: u16, acked: PacketNumber) -> [u8; 13] {
+    let [high, low] = number.to_be_bytes();
+    let [acked_high, acked_low] = acked.0.to_be_bytes();
     [
-        0x54,
-        0x09,
-        0,
-        1,
-        0,
-        script::high(number),
-        script::low(number),
-        script::high(acked.0),
-        script::low(acked.0),
-        0,
-        0,
-        0,
-        0,
+        0x54, 0x09, 0, 1, 0, high, low, acked_high, acked_low, 0, 0, 0, 0,
     ]
 }

@@ -1,53 +1,56 @@
-// A row of byte strings in one lent array: a table of where each ends, four bytes each after a first 0, then their bytes. An
-// end's log is one, and so are the packets that it has given up.
+// A row of byte strings in one array: the datagrams that an end has sent, or the payloads that it has given up. Its limits are
+// those of a script's form, so it has fixed memory and no heap.
 
-// The most strings.
-pub const MOST: usize = 1024;
+// One more than the most strings.
+const ENDS: usize = 1025;
 
-// The bytes of the table.
-const TABLE: usize = 4100;
-
-// The string at a place, which the row has.
-pub fn at(row: &[u8], place: usize) -> &[u8] {
-    script::part(row, start(row, place), start(row, script::sum(place, 1)))
+#[derive(Drop)]
+pub struct Log {
+    // Where each string ends, behind a first 0.
+    ends: [usize; ENDS],
+    count: usize,
+    bytes: [u8; 262144],
+    // Whether there was a string that it had no room for: the line of its field is told to the end before that ends the run.
+    full: bool,
 }
 
-// Where the string at a place starts; at the place behind the last, where they all end.
-fn start(row: &[u8], place: usize) -> usize {
-    if MOST < place {
-        return row.len();
+impl Log {
+    pub fn new() -> Log {
+        Log {
+            ends: [0; ENDS],
+            count: 0,
+            bytes: [0; 262144],
+            full: false,
+        }
     }
-    script::sum(TABLE, script::long(row, 4 * place) as usize)
-}
 
-// Puts a string behind so many others. Whether there was room.
-pub fn push(row: &mut [u8], count: usize, given: &[u8]) -> bool {
-    if MOST <= count {
-        return false;
+    pub fn is_full(&self) -> bool {
+        self.full
     }
-    let from = start(row, count);
-    if row.len() < from {
-        return false;
-    }
-    if row.len() - from < given.len() {
-        return false;
-    }
-    copying::copy(given, &mut row[from..]);
-    let end = script::difference(from + given.len(), TABLE);
-    write(row, 4 * count + 4, end);
-    true
-}
 
-// Writes a number in four bytes.
-fn write(row: &mut [u8], at: usize, n: usize) {
-    set(row, at, n / 16777216);
-    set(row, script::sum(at, 1), n / 65536);
-    set(row, script::sum(at, 2), n / 256);
-    set(row, script::sum(at, 3), n);
-}
+    pub fn get(&self, place: usize) -> Option<&[u8]> {
+        if self.count <= place {
+            return None;
+        }
+        let start = *self.ends.get(place)?;
+        let end = *self.ends.get(place + 1)?;
+        self.bytes.get(start..end)
+    }
 
-fn set(row: &mut [u8], at: usize, n: usize) {
-    if at < row.len() {
-        row[at] = (n % 256) as u8;
+    pub fn push(&mut self, given: &[u8]) {
+        if self.put(given).is_none() {
+            self.full = true;
+        }
+    }
+
+    // None where there is no room.
+    fn put(&mut self, given: &[u8]) -> Option<()> {
+        let start = *self.ends.get(self.count)?;
+        let end = start.checked_add(given.len())?;
+        let next = self.count.checked_add(1)?;
+        *self.ends.get_mut(next)? = end;
+        self.bytes.get_mut(start..end)?.copy_from_slice(given);
+        self.count = next;
+        Some(())
     }
 }

@@ -1,315 +1,235 @@
 // Tags 50 to 55: one ordered stream.
-use ordering::{Arranged, OrderingStream, Taken};
-use script::{Said, print, turns};
+use ordering::{Arranged, OrderingStream};
+use script::{Body, Field, Hex, Refused, Stop};
 use serial::ItemId;
-use terms::Sizes;
+use std::fmt;
+use terms::{Refusal, Sizes};
 
-#[derive(Clone, Copy)]
-pub struct State {
-    pub made: bool,
-    pub stream: OrderingStream,
-}
+// The most bytes of a payload.
+const F: usize = 1024;
 
-#[derive(Clone, Copy)]
-pub struct Done {
-    pub state: State,
-    pub said: Said,
-}
+// Nothing else of a link matters to a stream.
+const SIZES: Sizes = Sizes {
+    fragment_size: F,
+    reassembly_slots: 1,
+    max_fragments: 1,
+    packets_in_flight: 1,
+    version: 0,
+};
 
-// A stream, and how many items have come out of it.
-#[derive(Clone, Copy)]
-struct Handed {
+// The most items that can be held, the bytes of them all, and the least output that a call takes.
+const MOST: usize = 64;
+
+const HELD: usize = MOST * F;
+
+const OUTPUT: usize = 16 * F + 17;
+
+// A stream, the items that it holds in the columns that its calls are lent, and where one is written that is taken.
+#[derive(Drop)]
+pub struct Ordered {
     stream: OrderingStream,
-    count: u64,
+    index: [u32; MOST],
+    lengths: [u16; MOST],
+    bytes: [u8; HELD],
+    output: [u8; OUTPUT],
 }
 
-pub fn none() -> State {
-    State {
-        made: false,
-        stream: OrderingStream::new(),
-    }
+// An item that comes or goes out. It is told by its index, and its payload where that isn't empty.
+#[derive(Clone, Copy)]
+struct Item<'a> {
+    id: ItemId,
+    payload: &'a [u8],
 }
 
-pub fn step(
-    state: State,
-    index: &mut [u32],
-    lengths: &mut [u16],
-    bytes: &mut [u8],
-    output: &mut [u8],
-    tag: u8,
-    body: &[u8],
-    before: Said,
-) -> Done {
-    let form = form_of(tag);
-    if form == script::ANOTHERS {
-        return answered(state, before);
-    }
-    if !script::fits(form, body.len()) {
-        return answered(state, Said::Bad);
-    }
-    if tag == 0x50 {
-        print::text(b"index answer out\n");
-        return told(OrderingStream::new());
-    }
-    if !state.made {
-        return answered(state, script::missing());
-    }
-    let stream = state.stream;
-    if tag == 0x54 {
-        return item_identifier(stream);
-    }
-    begin(tag);
-    let first = script::number(body, 0);
-    let payload = script::rest(body, 2);
-    let handed = feed(stream, index, lengths, bytes, output, tag, first, payload);
-    end(tag, first, payload, handed)
-}
-
-fn form_of(tag: u8) -> usize {
-    match tag {
-        0x50 | 0x53 | 0x54 => 0,
-        0x51 | 0x52 => script::MORE + 2,
-        0x55 => 4,
-        _ => script::ANOTHERS,
+impl fmt::Display for Item<'_> {
+    fn fmt<W: fmt::Write>(&self, f: &mut fmt::Formatter<W>) -> fmt::Result {
+        let index = self.id.0;
+        if self.payload.is_empty() {
+            return write!(f, "{index}");
+        }
+        let payload = Hex(self.payload);
+        write!(f, "{index}:{payload}")
     }
 }
 
-fn answered(state: State, said: Said) -> Done {
-    Done { state, said }
-}
+impl<'a> TryFrom<Body<'a>> for Item<'a> {
+    type Error = Stop;
 
-// The field had its line, and the stream is this.
-fn told(stream: OrderingStream) -> Done {
-    Done {
-        state: State { made: true, stream },
-        said: Said::Line,
+    fn try_from(mut body: Body<'a>) -> Result<Item<'a>, Stop> {
+        let id = ItemId(body.number()?);
+        let payload = body.0;
+        Ok(Item { id, payload })
     }
 }
 
-// Payloads have up to 1,024 bytes; nothing else of a link matters to a stream.
-fn sizes() -> Sizes {
-    Sizes {
-        fragment_size: 1024,
-        reassembly_slots: 1,
-        max_fragments: 1,
-        packets_in_flight: 1,
-        version: 0,
+// What a field asks of a stream.
+#[derive(Clone, Copy)]
+enum Operation<'a> {
+    // An item comes, and what waited for it is taken.
+    Come(Item<'a>),
+    // An item comes.
+    Arrange(Item<'a>),
+    Take,
+    Identify,
+    // From an item on so many come in a row, without payload, and what waited for them is taken.
+    Feed(ItemId, u16),
+}
+
+pub fn step(made: &mut Option<Ordered>, field: Field<'_>, out: &impl Print) -> Result<(), Stop> {
+    if field.tag == 0x50 {
+        field.body.end()?;
+        *made = Some(Ordered::new());
+        println!(out; "index answer out")?;
+        return Ok(());
+    }
+    let operation = Operation::try_from(field)?;
+    match made {
+        Some(stream) => stream.perform(operation, out),
+        None => script::missing(out),
     }
 }
 
-fn item_identifier(stream: OrderingStream) -> Done {
-    let new = stream.new_item_identifier();
-    let item = new.item;
-    let next = new.stream;
-    print::say(b"item %\n", [item.0 as u64, 0, 0, 0]);
-    told(next)
-}
+impl<'a> TryFrom<Field<'a>> for Operation<'a> {
+    type Error = Stop;
 
-fn begin(tag: u8) {
-    if tag == 0x52 {
-        print::text(b"arrange ");
-    }
-    if tag == 0x53 {
-        print::text(b"take");
-    }
-}
-
-fn end(tag: u8, first: u16, payload: &[u8], handed: Handed) -> Done {
-    if tag == 0x55 {
-        let count = script::number(payload, 0);
-        print::say(
-            b"feed % % out %\n",
-            [first as u64, count as u64, handed.count, 0],
-        );
-    } else {
-        end_list(handed.count);
-    }
-    told(handed.stream)
-}
-
-fn end_list(count: u64) {
-    if count == 0 {
-        print::text(b" -");
-    }
-    print::text(b"\n");
-}
-
-// One item, or for tag 55 so many in a row.
-fn feed(
-    stream: OrderingStream,
-    index: &mut [u32],
-    lengths: &mut [u16],
-    bytes: &mut [u8],
-    output: &mut [u8],
-    tag: u8,
-    first: u16,
-    payload: &[u8],
-) -> Handed {
-    let count = items(tag, payload);
-    let mut handed = Handed { stream, count: 0 };
-    let mut i: u16 = 0;
-    while i < count {
-        let n = std::num::wrapping_add_u16(first, i);
-        handed = feed_one(handed, index, lengths, bytes, output, tag, n, payload);
-        i += 1;
-    }
-    handed
-}
-
-fn feed_one(
-    before: Handed,
-    index: &mut [u32],
-    lengths: &mut [u16],
-    bytes: &mut [u8],
-    output: &mut [u8],
-    tag: u8,
-    n: u16,
-    payload: &[u8],
-) -> Handed {
-    let come = arrange(before, index, lengths, bytes, output, tag, n, payload);
-    take(come, index, lengths, bytes, output, tag)
-}
-
-fn items(tag: u8, payload: &[u8]) -> u16 {
-    if tag == 0x55 {
-        return script::number(payload, 0);
-    }
-    1
-}
-
-// An item comes, but for tag 53; without payload for tag 55.
-fn arrange(
-    before: Handed,
-    index: &mut [u32],
-    lengths: &mut [u16],
-    bytes: &mut [u8],
-    output: &mut [u8],
-    tag: u8,
-    n: u16,
-    payload: &[u8],
-) -> Handed {
-    if tag == 0x53 {
-        return before;
-    }
-    let stream = before.stream;
-    let given = given(tag, payload);
-    let after = ordering::arrange(
-        sizes(),
-        stream,
-        index,
-        lengths,
-        bytes,
-        ItemId(n),
-        given,
-        output,
-    );
-    let next = after.stream;
-    let answer = after.answer;
-    Handed {
-        stream: next,
-        count: std::num::wrapping_add_u64(before.count, come_out(tag, n, answer, given)),
+    fn try_from(field: Field<'a>) -> Result<Operation<'a>, Stop> {
+        let mut body = field.body;
+        let operation = match field.tag {
+            0x51 => return Ok(Operation::Come(Item::try_from(body)?)),
+            0x52 => return Ok(Operation::Arrange(Item::try_from(body)?)),
+            0x53 => Operation::Take,
+            0x54 => Operation::Identify,
+            0x55 => Operation::Feed(ItemId(body.number()?), body.number()?),
+            _ => return Err(Stop::Bad),
+        };
+        body.end()?;
+        Ok(operation)
     }
 }
 
-fn given(tag: u8, payload: &[u8]) -> &[u8] {
-    if tag == 0x55 {
-        return &payload[0..0];
+impl Ordered {
+    fn new() -> Ordered {
+        Ordered {
+            stream: OrderingStream::new(),
+            index: [0; MOST],
+            lengths: [0; MOST],
+            bytes: [0; HELD],
+            output: [0; OUTPUT],
+        }
     }
-    payload
-}
 
-// Tells an answer, but for tag 55, and how many items of the line's list there are so far; a refusal stands for the list.
-fn come_out(tag: u8, n: u16, answer: Arranged, payload: &[u8]) -> u64 {
-    match answer {
-        Arranged::Out => {
-            if tag != 0x55 {
-                print::say(b"% out", [n as u64, 0, 0, 0]);
-                item(n, payload);
+    fn perform(&mut self, operation: Operation<'_>, out: &impl Print) -> Result<(), Stop> {
+        match operation {
+            Operation::Come(item) => {
+                let listed = self.come(item, out)?;
+                let taken = self.take_all(out)?;
+                end_list(listed || taken, out)
             }
-            1
+            Operation::Arrange(item) => {
+                print!(out; "arrange ")?;
+                let listed = self.come(item, out)?;
+                end_list(listed, out)
+            }
+            Operation::Take => {
+                print!(out; "take")?;
+                let taken = self.take_one(out)?;
+                end_list(taken, out)
+            }
+            Operation::Identify => {
+                let new = self.stream.new_item_identifier();
+                self.stream = new.stream;
+                let item = new.item.0;
+                println!(out; "item {item}")?;
+                Ok(())
+            }
+            Operation::Feed(first, count) => self.feed(first, count, out),
         }
-        Arranged::Held(_) => {
-            word(tag, b"% held", n, 0);
-            0
+    }
+
+    // Tells what becomes of an item, and whether the line's list has begun: a refusal stands for it.
+    fn come(&mut self, item: Item<'_>, out: &impl Print) -> Result<bool, Stop> {
+        let index = item.id.0;
+        match self.arrange(item) {
+            Ok(Arranged::Out) => print!(out; "{index} out {item}")?,
+            Ok(Arranged::Held(_)) => {
+                print!(out; "{index} held")?;
+                return Ok(false);
+            }
+            Ok(Arranged::Old) => {
+                print!(out; "{index} old")?;
+                return Ok(false);
+            }
+            Err(why) => print!(out; "{index} {}", Refused(why))?,
         }
-        Arranged::Old => {
-            word(tag, b"% old", n, 0);
-            0
+        Ok(true)
+    }
+
+    // Takes until nothing comes, at most the items that can be held. Whether any came.
+    fn take_all(&mut self, out: &impl Print) -> Result<bool, Stop> {
+        for turn in 0..MOST {
+            if !self.take_one(out)? {
+                return Ok(0 < turn);
+            }
         }
-        Arranged::Refused(why) => {
-            word(tag, b"% refused %", n, terms::number(why));
-            (tag != 0x55) as u64
+        Ok(true)
+    }
+
+    fn take_one(&mut self, out: &impl Print) -> Result<bool, Stop> {
+        let id = self.stream.expected_index;
+        let Some(length) = self.take() else {
+            return Ok(false);
+        };
+        let payload = script::front(&self.output, length);
+        let item = Item { id, payload };
+        print!(out; " {item}")?;
+        Ok(true)
+    }
+
+    fn feed(&mut self, first: ItemId, count: u16, out: &impl Print) -> Result<(), Stop> {
+        let first = first.0;
+        let mut all = 0usize;
+        for i in 0..count {
+            let id = ItemId(first.wrapping_add(i));
+            let is_out = matches!(self.arrange(Item { id, payload: b"" }), Ok(Arranged::Out));
+            let taken = (0..MOST).take_while(|_| self.take().is_some()).count();
+            all = all.saturating_add(taken + usize::from(is_out));
         }
+        println!(out; "feed {first} {count} out {all}")?;
+        Ok(())
+    }
+
+    fn arrange(&mut self, item: Item<'_>) -> Result<Arranged, Refusal> {
+        let after = ordering::arrange(
+            SIZES,
+            self.stream,
+            &mut self.index,
+            &mut self.lengths,
+            &mut self.bytes,
+            item.id,
+            item.payload,
+            &mut self.output,
+        );
+        self.stream = after.stream;
+        after.answer
+    }
+
+    // The length of the next item, at the start of the output.
+    fn take(&mut self) -> Option<usize> {
+        let after = ordering::take(
+            SIZES,
+            self.stream,
+            &mut self.index,
+            &mut self.lengths,
+            &mut self.bytes,
+            &mut self.output,
+        );
+        self.stream = after.stream;
+        after.answer.unwrap_or(None)
     }
 }
 
-fn word(tag: u8, words: &[u8], n: u16, why: u8) {
-    if tag != 0x55 {
-        print::say(words, [n as u64, why as u64, 0, 0]);
-    }
-}
-
-// Its index, and its payload where that isn't empty.
-fn item(n: u16, payload: &[u8]) {
-    print::say(b" %", [n as u64, 0, 0, 0]);
-    if 0 < payload.len() {
-        print::text(b":");
-        print::bytes(payload);
-    }
-}
-
-// Takes until nothing comes, at most the 64 that can be held; for tag 52 none, for 53 one.
-fn take(
-    before: Handed,
-    index: &mut [u32],
-    lengths: &mut [u16],
-    bytes: &mut [u8],
-    output: &mut [u8],
-    tag: u8,
-) -> Handed {
-    let mut handed = before;
-    let mut left = most(tag);
-    while 0 < left {
-        let count = handed.count;
-        handed = take_one(handed, index, lengths, bytes, output, tag);
-        left = turns::fewer(left, handed.count != count);
-    }
-    handed
-}
-
-fn most(tag: u8) -> usize {
-    match tag {
-        0x52 => 0,
-        0x53 => 1,
-        _ => 64,
-    }
-}
-
-fn take_one(
-    before: Handed,
-    index: &mut [u32],
-    lengths: &mut [u16],
-    bytes: &mut [u8],
-    output: &mut [u8],
-    tag: u8,
-) -> Handed {
-    let stream = before.stream;
-    let expected = stream.expected_index;
-    let after = ordering::take(sizes(), stream, index, lengths, bytes, output);
-    let next = after.stream;
-    let answer = after.answer;
-    Handed {
-        stream: next,
-        count: std::num::wrapping_add_u64(before.count, taken(tag, expected.0, answer, output)),
-    }
-}
-
-fn taken(tag: u8, n: u16, answer: Taken, output: &[u8]) -> u64 {
-    let Taken::Item(length) = answer else {
-        return 0;
-    };
-    if tag != 0x55 {
-        item(n, script::part(output, 0, length));
-    }
-    1
+// A list of nothing is `-`.
+fn end_list(begun: bool, out: &impl Print) -> Result<(), Stop> {
+    println!(out; "{}", if begun { "" } else { " -" })?;
+    Ok(())
 }

@@ -1,289 +1,49 @@
 // Tags 20 to 25: the acknowledgments of one end, with room for 256 packets in flight.
-use acknowledgment::{AckBitfield, Acknowledgment, DroppedPackets, InFlight, Processed};
+use acknowledgment::Acknowledgment;
 use flight::SentPacket;
 use flight::lost::Dropped;
-use script::{Said, print, record, turns};
+use script::{Bits, Body, Field, Hex, Record, Refused, Stop};
 use serial::{ItemId, PacketNumber};
-use terms::Sizes;
+use terms::{Refusal, Sizes};
 
-#[derive(Clone, Copy)]
-pub struct State {
-    pub made: bool,
-    pub counters: Acknowledgment,
-}
+// The most bytes of a payload, and the most packets in flight.
+const F: usize = 64;
 
-#[derive(Clone, Copy)]
-pub struct Done {
-    pub state: State,
-    pub said: Said,
-}
+const N: usize = 256;
 
-pub fn none() -> State {
-    State {
-        made: false,
-        counters: Acknowledgment {
-            sequence_number: PacketNumber(0),
-            remote_ack_sequence_num: PacketNumber(0),
-            received: PacketNumber(0),
-        },
-    }
-}
+const SIZES: Sizes = Sizes {
+    fragment_size: F,
+    reassembly_slots: 1,
+    max_fragments: 16,
+    packets_in_flight: N,
+    version: 0,
+};
 
-pub fn step(
-    state: State,
-    received: &mut [u32],
-    number: &mut [u32],
-    records: &mut [u32],
-    bytes: &mut [u8],
-    output: &mut [u8],
-    tag: u8,
-    body: &[u8],
-    before: Said,
-) -> Done {
-    let form = form_of(tag);
-    if form == script::ANOTHERS {
-        return answered(state, before);
-    }
-    if !script::fits(form, body.len()) {
-        return answered(state, Said::Bad);
-    }
-    if tag == 0x22 && !is_sent(body) {
-        return answered(state, Said::Bad);
-    }
-    if tag == 0x20 {
-        return new(received, number, records);
-    }
-    if !state.made {
-        return answered(state, script::missing());
-    }
-    let counters = state.counters;
-    perform(
-        counters, received, number, records, bytes, output, tag, body,
-    )
-}
+// There is room for payloads of 16 fragments, and the least output that a call takes.
+const PAYLOADS: usize = 16 * F * N;
 
-fn form_of(tag: u8) -> usize {
-    match tag {
-        0x20 | 0x23 | 0x24 => 0,
-        0x21 => 8,
-        0x22 => script::MORE + 6,
-        0x25 => 4,
-        _ => script::ANOTHERS,
-    }
-}
+const OUTPUT: usize = 16 * F + 17;
 
-// An ordering, and with the stream and the item a byte 0 or 1.
-fn is_sent(body: &[u8]) -> bool {
-    script::byte(body, 0) < 3 && script::byte(body, 1) < 2 && script::byte(body, 3) < 2
-}
+// What is sent where nothing is ordered.
+const UNORDERED: SentPacket = SentPacket {
+    ordering: 0,
+    stream: 255,
+    item: ItemId(0),
+};
 
-fn answered(state: State, said: Said) -> Done {
-    Done { state, said }
-}
-
-// The field had its line, and the counters are these.
-fn told(counters: Acknowledgment) -> Done {
-    Done {
-        state: State {
-            made: true,
-            counters,
-        },
-        said: Said::Line,
-    }
-}
-
-fn sizes() -> Sizes {
-    Sizes {
-        fragment_size: 64,
-        reassembly_slots: 1,
-        max_fragments: 16,
-        packets_in_flight: 256,
-        version: 0,
-    }
-}
-
-fn new(received: &mut [u32], number: &mut [u32], records: &[u32]) -> Done {
-    let counters = acknowledgment::new(received, number);
-    print::text(b"ack new");
-    tell_state(counters, received, number, records);
-    told(counters)
-}
-
-fn perform(
+// The counters of an end, the packets received and those in flight in the columns that the calls are lent, and where a payload
+// is written that was given up.
+#[derive(Drop)]
+pub struct Ack {
     counters: Acknowledgment,
-    received: &mut [u32],
-    number: &mut [u32],
-    records: &mut [u32],
-    bytes: &mut [u8],
-    output: &mut [u8],
-    tag: u8,
-    body: &[u8],
-) -> Done {
-    let local = counters.local_sequence_num();
-    begin(tag, local, body);
-    let after = turns(counters, received, number, records, bytes, tag, body);
-    drops(after, received, number, records, bytes, output, tag);
-    tell_state(after, received, number, records);
-    told(after)
+    received: [u32; 33],
+    number: [u32; N],
+    records: [u32; N],
+    payloads: [u8; PAYLOADS],
+    output: [u8; OUTPUT],
 }
 
-fn begin(tag: u8, local: PacketNumber, body: &[u8]) {
-    let a = script::number(body, 0) as u64;
-    let b = script::number(body, 2) as u64;
-    match tag {
-        0x21 => print::say(
-            b"ack incoming % % &",
-            [a, b, script::long(body, 4) as u64, 0],
-        ),
-        0x22 => print::say(b"ack outgoing %", [local.0 as u64, 0, 0, 0]),
-        0x23 => print::text(b"ack dropped"),
-        0x24 => print::text(b"ack state"),
-        _ => print::say(b"ack cycle % %", [a, b, 0, 0]),
-    }
-}
-
-// Next packet number, reported newest, field, how many in flight.
-fn tell_state(counters: Acknowledgment, received: &[u32], number: &[u32], records: &[u32]) {
-    let local = counters.local_sequence_num();
-    let newest = counters.remote_sequence_num();
-    let field = field_of(acknowledgment::ack_bitfield(sizes(), counters, received));
-    let count = count_of(acknowledgment::packets_in_flight(sizes(), number, records));
-    print::say(
-        b" | % % & %\n",
-        [local.0 as u64, newest.0 as u64, field, count],
-    );
-}
-
-fn field_of(answer: AckBitfield) -> u64 {
-    match answer {
-        AckBitfield::Field(field) => field as u64,
-        AckBitfield::Refused(why) => refused(terms::number(why)),
-    }
-}
-
-fn count_of(answer: InFlight) -> u64 {
-    match answer {
-        InFlight::Packets(count) => count as u64,
-        InFlight::Refused(why) => refused(terms::number(why)),
-    }
-}
-
-// No script comes here: the storage is there, and what is sent is short.
-fn refused(why: u8) -> u64 {
-    print::say(b" refused %", [why as u64, 0, 0, 0]);
-    0
-}
-
-// A turn is a packet sent, and one that comes: tag 21 has the second alone, 22 the first, and 25 so many turns.
-fn turns(
-    counters: Acknowledgment,
-    received: &mut [u32],
-    number: &mut [u32],
-    records: &mut [u32],
-    bytes: &mut [u8],
-    tag: u8,
-    body: &[u8],
-) -> Acknowledgment {
-    let count = turns_of(tag, body);
-    let mut after = counters;
-    let mut i: u16 = 0;
-    while i < count {
-        after = turn(after, received, number, records, bytes, tag, body);
-        i += 1;
-    }
-    after
-}
-
-fn turns_of(tag: u8, body: &[u8]) -> u16 {
-    match tag {
-        0x21 | 0x22 => 1,
-        0x25 => script::number(body, 0),
-        _ => 0,
-    }
-}
-
-fn turn(
-    before: Acknowledgment,
-    received: &mut [u32],
-    number: &mut [u32],
-    records: &mut [u32],
-    bytes: &mut [u8],
-    tag: u8,
-    body: &[u8],
-) -> Acknowledgment {
-    let local = before.local_sequence_num();
-    let sent = outgoing(before, received, number, records, bytes, tag, body);
-    incoming(sent, received, number, records, bytes, tag, body, local)
-}
-
-fn outgoing(
-    before: Acknowledgment,
-    received: &[u32],
-    number: &mut [u32],
-    records: &mut [u32],
-    bytes: &mut [u8],
-    tag: u8,
-    body: &[u8],
-) -> Acknowledgment {
-    if tag == 0x21 {
-        return before;
-    }
-    let sent = sent_of(tag, body);
-    let payload = script::rest(body, 6);
-    let answer = acknowledgment::process_outgoing(
-        sizes(),
-        before,
-        received,
-        number,
-        records,
-        bytes,
-        sent,
-        payload,
-    );
-    after(before, answer)
-}
-
-fn incoming(
-    before: Acknowledgment,
-    received: &mut [u32],
-    number: &mut [u32],
-    records: &[u32],
-    bytes: &[u8],
-    tag: u8,
-    body: &[u8],
-    local: PacketNumber,
-) -> Acknowledgment {
-    if tag == 0x22 {
-        return before;
-    }
-    let heard = heard_of(tag, body, local);
-    let packet = heard.packet;
-    let acked = heard.acked;
-    let answer = acknowledgment::process_incoming(
-        sizes(),
-        before,
-        received,
-        number,
-        records,
-        bytes,
-        packet,
-        acked,
-        heard.field,
-    );
-    after(before, answer)
-}
-
-fn after(before: Acknowledgment, answer: Processed) -> Acknowledgment {
-    match answer {
-        Processed::Done(next) => next,
-        Processed::Refused(why) => {
-            refused(terms::number(why));
-            before
-        }
-    }
-}
-
-// The numbers of a packet that comes.
+// A packet that comes.
 #[derive(Clone, Copy)]
 struct Heard {
     packet: PacketNumber,
@@ -291,117 +51,222 @@ struct Heard {
     field: u32,
 }
 
-fn heard_of(tag: u8, body: &[u8], local: PacketNumber) -> Heard {
-    let b = script::number(body, 2);
-    if tag == 0x25 {
-        return Heard {
-            packet: PacketNumber(b),
-            acked: local,
-            field: 0,
+// What a field asks of an end.
+#[derive(Clone, Copy)]
+enum Operation<'a> {
+    Incoming(Heard),
+    Outgoing(SentPacket, &'a [u8]),
+    Dropped,
+    State,
+    // So many packets are sent, and for each comes one that acknowledges it.
+    Cycle(u16, PacketNumber),
+}
+
+pub fn step(end: &mut Option<Ack>, field: Field<'_>, out: &impl Print) -> Result<(), Stop> {
+    if field.tag == 0x20 {
+        field.body.end()?;
+        let new = Ack::new();
+        print!(out; "ack new")?;
+        new.tell_state(out)?;
+        *end = Some(new);
+        return Ok(());
+    }
+    let operation = Operation::try_from(field)?;
+    match end {
+        Some(end) => end.perform(operation, out),
+        None => script::missing(out),
+    }
+}
+
+impl<'a> TryFrom<Field<'a>> for Operation<'a> {
+    type Error = Stop;
+
+    fn try_from(field: Field<'a>) -> Result<Operation<'a>, Stop> {
+        let mut body = field.body;
+        let operation = match field.tag {
+            0x21 => Operation::Incoming(Heard {
+                packet: PacketNumber(body.number()?),
+                acked: PacketNumber(body.number()?),
+                field: body.long()?,
+            }),
+            0x22 => return outgoing(body),
+            0x23 => Operation::Dropped,
+            0x24 => Operation::State,
+            0x25 => Operation::Cycle(body.number()?, PacketNumber(body.number()?)),
+            _ => return Err(Stop::Bad),
         };
-    }
-    Heard {
-        packet: PacketNumber(script::number(body, 0)),
-        acked: PacketNumber(b),
-        field: script::long(body, 4),
+        body.end()?;
+        Ok(operation)
     }
 }
 
-// What is sent: for tag 25 nothing that is ordered. Without a stream it is laminar's default, 255.
-fn sent_of(tag: u8, body: &[u8]) -> SentPacket {
-    if tag == 0x25 {
-        return SentPacket {
-            ordering: 0,
-            stream: 255,
-            item: ItemId(0),
-        };
-    }
-    SentPacket {
-        ordering: script::byte(body, 0),
-        stream: stream_of(script::byte(body, 1), script::byte(body, 2)),
-        item: ItemId(script::number(body, 4)),
-    }
+// An ordering, with the stream and the item a byte 0 or 1, and a payload.
+fn outgoing(mut body: Body<'_>) -> Result<Operation<'_>, Stop> {
+    let ordering = body.below(3)?;
+    let stream = body.stream()?;
+    body.below(2)?;
+    let item = ItemId(body.number()?);
+    let sent = SentPacket {
+        ordering,
+        stream,
+        item,
+    };
+    Ok(Operation::Outgoing(sent, body.0))
 }
 
-fn stream_of(given: u8, id: u8) -> u8 {
-    if given == 0 {
-        return 255;
+impl Ack {
+    fn new() -> Ack {
+        let mut received = [0; 33];
+        let mut number = [0; N];
+        let counters = acknowledgment::new(&mut received, &mut number);
+        Ack {
+            counters,
+            received,
+            number,
+            records: [0; N],
+            payloads: [0; PAYLOADS],
+            output: [0; OUTPUT],
+        }
     }
-    id
-}
 
-// For tag 23: drops until nothing comes, at most the 256 that can be in flight.
-fn drops(
-    counters: Acknowledgment,
-    received: &[u32],
-    number: &mut [u32],
-    records: &[u32],
-    bytes: &[u8],
-    output: &mut [u8],
-    tag: u8,
-) {
-    let mut left = most(tag);
-    while 0 < left {
-        let came = drop_one(counters, received, number, records, bytes, output, left);
-        left = turns::fewer(left, came);
-    }
-}
-
-fn most(tag: u8) -> usize {
-    if tag == 0x23 {
-        return FIRST;
-    }
-    0
-}
-
-// The turns of a list: one for each packet, and one that finds nothing.
-const FIRST: usize = 257;
-
-fn drop_one(
-    counters: Acknowledgment,
-    received: &[u32],
-    number: &mut [u32],
-    records: &[u32],
-    bytes: &[u8],
-    output: &mut [u8],
-    left: usize,
-) -> bool {
-    let answer = acknowledgment::dropped_packets(
-        sizes(),
-        counters,
-        received,
-        number,
-        records,
-        bytes,
-        output,
-    );
-    tell_drop(answer, output, left)
-}
-
-// Whether a packet came. A list in which none did is `-`.
-fn tell_drop(answer: DroppedPackets, output: &[u8], left: usize) -> bool {
-    match answer {
-        DroppedPackets::Nothing => {
-            if left == FIRST {
-                print::text(b" -");
+    fn perform(&mut self, operation: Operation<'_>, out: &impl Print) -> Result<(), Stop> {
+        match operation {
+            Operation::Incoming(heard) => {
+                let packet = heard.packet.0;
+                let acked = heard.acked.0;
+                let field = Bits(heard.field);
+                print!(out; "ack incoming {packet} {acked} {field}")?;
+                self.incoming(heard, out)?;
             }
-            false
+            Operation::Outgoing(sent, payload) => {
+                let local = self.counters.local_sequence_num().0;
+                print!(out; "ack outgoing {local}")?;
+                self.outgoing(sent, payload, out)?;
+            }
+            Operation::Dropped => {
+                print!(out; "ack dropped")?;
+                self.give_up(out)?;
+            }
+            Operation::State => print!(out; "ack state")?,
+            Operation::Cycle(count, packet) => self.cycle(count, packet, out)?,
         }
-        DroppedPackets::Packet(dropped) => {
-            tell_packet(dropped, output);
-            true
+        self.tell_state(out)
+    }
+
+    fn incoming(&mut self, heard: Heard, out: &impl Print) -> Result<(), Stop> {
+        let answer = acknowledgment::process_incoming(
+            SIZES,
+            self.counters,
+            &mut self.received,
+            &mut self.number,
+            &self.records,
+            &self.payloads,
+            heard.packet,
+            heard.acked,
+            heard.field,
+        );
+        self.counters = or_refused(answer, self.counters, out)?;
+        Ok(())
+    }
+
+    fn outgoing(&mut self, sent: SentPacket, payload: &[u8], out: &impl Print) -> Result<(), Stop> {
+        let answer = acknowledgment::process_outgoing(
+            SIZES,
+            self.counters,
+            &self.received,
+            &mut self.number,
+            &mut self.records,
+            &mut self.payloads,
+            sent,
+            payload,
+        );
+        self.counters = or_refused(answer, self.counters, out)?;
+        Ok(())
+    }
+
+    fn cycle(&mut self, count: u16, packet: PacketNumber, out: &impl Print) -> Result<(), Stop> {
+        let number = packet.0;
+        print!(out; "ack cycle {count} {number}")?;
+        for _ in 0..count {
+            let acked = self.counters.local_sequence_num();
+            self.outgoing(UNORDERED, b"", out)?;
+            let heard = Heard {
+                packet,
+                acked,
+                field: 0,
+            };
+            self.incoming(heard, out)?;
         }
-        DroppedPackets::Refused(why) => {
-            refused(terms::number(why));
-            false
+        Ok(())
+    }
+
+    // Until nothing comes, after at most the packets that can be in flight. A list in which none came is `-`.
+    fn give_up(&mut self, out: &impl Print) -> Result<(), Stop> {
+        for turn in 0..=N {
+            match self.drop_one() {
+                Ok(Some(dropped)) => self.tell_dropped(dropped, out)?,
+                Ok(None) => {
+                    if turn == 0 {
+                        print!(out; " -")?;
+                    }
+                    return Ok(());
+                }
+                Err(why) => return tell_refused(why, out),
+            }
+        }
+        Ok(())
+    }
+
+    fn tell_dropped(&self, dropped: Dropped, out: &impl Print) -> Result<(), Stop> {
+        let payload = Hex(script::front(&self.output, dropped.count));
+        let record = Record(dropped.sent);
+        print!(out; " {payload}{record}")?;
+        Ok(())
+    }
+
+    fn drop_one(&mut self) -> Result<Option<Dropped>, Refusal> {
+        acknowledgment::dropped_packets(
+            SIZES,
+            self.counters,
+            &self.received,
+            &mut self.number,
+            &self.records,
+            &self.payloads,
+            &mut self.output,
+        )
+    }
+
+    // Next packet number, reported newest, field, how many in flight.
+    fn tell_state(&self, out: &impl Print) -> Result<(), Stop> {
+        let counters = self.counters;
+        let field = acknowledgment::ack_bitfield(SIZES, counters, &self.received);
+        let field = Bits(or_refused(field, 0, out)?);
+        let count = acknowledgment::packets_in_flight(SIZES, &self.number, &self.records);
+        let count = or_refused(count, 0, out)?;
+        let local = counters.local_sequence_num().0;
+        let newest = counters.remote_sequence_num().0;
+        println!(out; " | {local} {newest} {field} {count}")?;
+        Ok(())
+    }
+}
+
+// Where a call is refused that is told, and what is given stands for its answer.
+fn or_refused<T: Drop>(
+    answer: Result<T, Refusal>,
+    instead: T,
+    out: &impl Print,
+) -> Result<T, Stop> {
+    match answer {
+        Ok(value) => Ok(value),
+        Err(why) => {
+            tell_refused(why, out)?;
+            Ok(instead)
         }
     }
 }
 
-fn tell_packet(dropped: Dropped, output: &[u8]) {
-    let sent = dropped.sent;
-    print::text(b" ");
-    print::bytes(script::part(output, 0, dropped.count));
-    let item = sent.item;
-    record::tell(sent.ordering, sent.stream, item);
+fn tell_refused(why: Refusal, out: &impl Print) -> Result<(), Stop> {
+    let refused = Refused(why);
+    print!(out; " {refused}")?;
+    Ok(())
 }

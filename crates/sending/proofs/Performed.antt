@@ -3,6 +3,7 @@ use mathlib.Core.Path.{◌≡◌, refl}
 use mathlib.Core.List.{List}
 use Prim.Native.Nat.{ℕ}
 use lib.ListN.{length}
+use Rattle.std.specs.Prelude.{Result, Ok, Err}
 use Rattle.terms.specs.declared.Sizes.{Sizes}
 use Rattle.terms.specs.declared.Refusal.{Refusal}
 use Rattle.acks.specs.State.{table_of}
@@ -14,19 +15,16 @@ use Rattle.packet.specs.Build.{Writes}
 use Rattle.datagrams.specs.Datagrams.{datagram_for, count_of}
 use Rattle.sending.specs.Send.{identified_in, record_of, kept_by, Keeping, Performs, transmitted_of, Sends}
 use Rattle.datagrams.specs.declared.Item.{Item}
-use Rattle.sending.specs.declared.Answer.TheVariants.{Datagram, Refused}
 use Rattle.sending.specs.declared.Sent.{Sent}
 use Rattle.sending.specs.declared.effects.Identified.{Identified}
 use Rattle.sending.specs.declared.plan.Sending.{Sending}
-use Rattle.sending.specs.declared.plan.Plan.{Plan}
-use Rattle.sending.specs.declared.plan.Plan.TheVariants.{Refuse, Send}
 
 module _ (z : Sizes) (end : End) (received number records bytes : List ℕ) (i : Item) (q : Sending) (payload output : List ℕ) where
   abbrev sentAs : Identified → Acknowledgment → ℕ → ℕ → Sent
   sentAs d acks datagrams written =
       record {
         end = record { acks = acks; reassembly = end.reassembly; ordering = d.ordering; sequencing = d.sequencing };
-        answer = Datagram (record { number = end.acks.sequence_number; datagrams = datagrams; length = written });
+        answer = Ok (record { number = end.acks.sequence_number; datagrams = datagrams; length = written });
       }
 
   pub performed : (d : Identified) (acks : Acknowledgment) (datagrams written : ℕ) (number' records' bytes' output' : List ℕ)
@@ -51,12 +49,12 @@ module _ (z : Sizes) (end : End) (received number records bytes : List ℕ) (i :
       }
 
 module _ (z : Sizes) (s : State) (i : Item) (payload output : List ℕ) where
-  abbrev P : Plan
+  abbrev P : Result Sending Refusal
   P = plan_of z s.acks.counters.sequence_number.0 s.ordered.counters s.sequenced (table_of z s.acks.number) i (length payload)
 
   -- a refusal leaves everything as it was
-  pub kept : (why : Refusal) → P ≡ Refuse why
-      → Sends (transmitted_of z s i payload output) (record { end = counters_of s; answer = Refused why })
+  pub kept : (why : Refusal) → P ≡ Err why
+      → Sends (transmitted_of z s i payload output) (record { end = counters_of s; answer = Err why })
       s.acks.received s.acks.number s.acks.records s.acks.bytes
       s.parts.slots s.parts.entry s.parts.header s.parts.bytes
       s.ordered.index s.ordered.lengths s.ordered.bytes output
@@ -82,7 +80,7 @@ module _ (z : Sizes) (s : State) (i : Item) (payload output : List ℕ) where
         output_is = refl;
       })
 
-  pub sends : (q : Sending) (r : Sent) (number records bytes output' : List ℕ) → P ≡ Send q
+  pub sends : (q : Sending) (r : Sent) (number records bytes output' : List ℕ) → P ≡ Ok q
       → Performs z (counters_of s) s.acks.received s.acks.number s.acks.records s.acks.bytes i q payload output r number records bytes output'
       → Sends (transmitted_of z s i payload output) r
       s.acks.received number records bytes

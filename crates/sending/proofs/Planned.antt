@@ -9,7 +9,8 @@ use native.Mathlib.Omega.{arith}
 use lib.Dec.{ltb, eqb}
 use lib.ListN.{length, take}
 use borrow.Author.Tests.{lt-ltb, le-ltb, ltb-false, eqb-false, ne_eqb}
-use Rattle.laws.proofs.Cases.{case, neither, lt_or_le}
+use Rattle.std.specs.Prelude.{Result, Ok, Err}
+use Rattle.laws.proofs.Cases.{case, neither, lt_or_le, no_answer}
 use Rattle.keys.proofs.First.{first_le}
 use Rattle.terms.specs.declared.Sizes.{Sizes}
 use Rattle.terms.specs.declared.Refusal.{Refusal}
@@ -31,8 +32,6 @@ use Rattle.datagrams.proofs.Fits.{take_most}
 use Rattle.sending.specs.Plan.{is_listed, is_long, place_by, stream_place, is_full, flight_place, plan_of}
 use Rattle.datagrams.specs.declared.Item.{Item}
 use Rattle.sending.specs.declared.plan.Sending.{Sending}
-use Rattle.sending.specs.declared.plan.Plan.{Plan}
-use Rattle.sending.specs.declared.plan.Plan.TheVariants.{Refuse, Send}
 
 module _ (f n : ℕ) (i : Item) where
   pub not_over : is_long f i n ≡ false → n ≤ 65535
@@ -63,7 +62,7 @@ no_place Unreliable n number some = sym (ne_eqb 0 (length number) (λ e. omega a
 no_place Reliable n number some =
     full_place n (numbers_in number) (rw (numbers_length number) some) ∙ ap (eqb (flight_place Reliable n number)) (numbers_length number)
 
-place_most : (d : DeliveryGuarantee) (n : ℕ) (number : List ℕ) → 1 ≤ length number → flight_place d n number ≤ length number
+pub place_most : (d : DeliveryGuarantee) (n : ℕ) (number : List ℕ) → 1 ≤ length number → flight_place d n number ≤ length number
 place_most Unreliable n number some = omega arith
 place_most Reliable n number some =
     omega (arith, place_le n (numbers_in number) (rw (numbers_length number) some), numbers_length number)
@@ -79,10 +78,7 @@ stream_most None id ordered sequenced a b = omega arith
 stream_most Sequenced id ordered sequenced a b = four sequenced.known id b
 stream_most Ordered id ordered sequenced a b = four ordered.known id a
 
-refusal : {G : Type 0} (why : Refusal) (q : Sending) → Refuse why ≡ Send q → G
-refusal why q e = absurd (let z : ◌≡◌ {A = ℕ} 0 1 = cc in omega arith)
-
-same : (p q : Sending) → Send p ≡ Send q → p ≡ q
+same : (p q : Sending) → ◌≡◌ {A = Result Sending Refusal} (Ok p) (Ok q) → p ≡ q
 same p q e = cc
 
 module _ (z : Sizes) (n : ℕ) (ordered : OrderingStreams) (sequenced : SequencingStreams) (number : List ℕ) (i : Item) (size : ℕ) where
@@ -95,34 +91,34 @@ module _ (z : Sizes) (n : ℕ) (ordered : OrderingStreams) (sequenced : Sequenci
   abbrev Stream : ℕ
   Stream = stream_place i ordered sequenced
 
-  abbrev P : Plan
+  abbrev P : Result Sending Refusal
   P = plan_of z n ordered sequenced number i size
 
-  pub unlisted : is_listed i ≡ false → P ≡ Refuse BadHeader
+  pub unlisted : is_listed i ≡ false → P ≡ Err BadHeader
   unfolding plan_of
   unlisted a = rw a
 
-  pub too_long : is_listed i ≡ true → is_long F i size ≡ true → P ≡ Refuse TooLong
+  pub too_long : is_listed i ≡ true → is_long F i size ≡ true → P ≡ Err TooLong
   unfolding plan_of
   too_long a b = rw (a, b)
 
-  pub too_many : is_listed i ≡ true → is_long F i size ≡ false → ltb M (needed size F) ≡ true → P ≡ Refuse ExceededMaxFragments
+  pub too_many : is_listed i ≡ true → is_long F i size ≡ false → ltb M (needed size F) ≡ true → P ≡ Err ExceededMaxFragments
   unfolding plan_of
   too_many a b d = rw (a, b, d)
 
-  pub fifth : is_listed i ≡ true → is_long F i size ≡ false → ltb M (needed size F) ≡ false → eqb Stream 4 ≡ true → P ≡ Refuse NoStream
+  pub fifth : is_listed i ≡ true → is_long F i size ≡ false → ltb M (needed size F) ≡ false → eqb Stream 4 ≡ true → P ≡ Err NoStream
   unfolding plan_of
   fifth a b d e = rw (a, b, d, e)
 
   pub no_room : is_listed i ≡ true → is_long F i size ≡ false → ltb M (needed size F) ≡ false → eqb Stream 4 ≡ false
       → is_full i.delivery n number ≡ true
-      → P ≡ Refuse Full
+      → P ≡ Err Full
   unfolding plan_of
   no_room a b d e g = rw (a, b, d, e, g)
 
   pub goes : is_listed i ≡ true → is_long F i size ≡ false → ltb M (needed size F) ≡ false → eqb Stream 4 ≡ false
       → is_full i.delivery n number ≡ false
-      → P ≡ Send (record { at = flight_place i.delivery n number; stream = Stream })
+      → P ≡ Ok (record { at = flight_place i.delivery n number; stream = Stream })
   unfolding plan_of
   goes a b d e g = rw (a, b, d, e, g)
 
@@ -134,7 +130,7 @@ module _ (z : Sizes) (n : ℕ) (ordered : OrderingStreams) (sequenced : Sequenci
     pub at_place : q.at < length number
     pub on_stream_lem : q.stream < 4
 
-  module _ (some : 1 ≤ length number) (a4 : ordered.known.made ≤ 4) (b4 : sequenced.known.made ≤ 4) (q : Sending) (sends : P ≡ Send q) where
+  module _ (some : 1 ≤ length number) (a4 : ordered.known.made ≤ 4) (b4 : sequenced.known.made ≤ 4) (q : Sending) (sends : P ≡ Ok q) where
     passed : is_listed i ≡ true → is_long F i size ≡ false → ltb M (needed size F) ≡ false → eqb Stream 4 ≡ false
         → is_full i.delivery n number ≡ false
         → Accepted q
@@ -160,15 +156,15 @@ module _ (z : Sizes) (n : ℕ) (ordered : OrderingStreams) (sequenced : Sequenci
         case (is_listed i)
         (λ a.
         case (is_long F i size)
-        (λ b. refusal TooLong q (sym (too_long a b) ∙ sends))
+        (λ b. no_answer (sym (too_long a b) ∙ sends))
         (λ b.
         case (ltb M (needed size F))
-        (λ d. refusal ExceededMaxFragments q (sym (too_many a b d) ∙ sends))
+        (λ d. no_answer (sym (too_many a b d) ∙ sends))
         (λ d.
         case (eqb Stream 4)
-        (λ e. refusal NoStream q (sym (fifth a b d e) ∙ sends))
+        (λ e. no_answer (sym (fifth a b d e) ∙ sends))
         (λ e.
         case (is_full i.delivery n number)
-        (λ g. refusal Full q (sym (no_room a b d e g) ∙ sends))
+        (λ g. no_answer (sym (no_room a b d e g) ∙ sends))
         (λ g. passed a b d e g)))))
-        (λ a. refusal BadHeader q (sym (unlisted a) ∙ sends))
+        (λ a. no_answer (sym (unlisted a) ∙ sends))

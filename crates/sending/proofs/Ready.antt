@@ -4,6 +4,7 @@ use mathlib.Core.List.{List}
 use Prim.Native.Nat.{ℕ}
 use native.Mathlib.Omega.{arith}
 use lib.ListN.{length}
+use Rattle.std.specs.Prelude.{Ok}
 use Rattle.terms.specs.declared.Sizes.{Sizes}
 use Rattle.acks.specs.State.{table_of}
 use Rattle.ends.specs.State.{State, counters_of}
@@ -13,12 +14,11 @@ use Rattle.sending.specs.Plan.{plan_of}
 use Rattle.sending.specs.Send.{SendReady}
 use Rattle.datagrams.specs.declared.Item.{Item}
 use Rattle.sending.specs.declared.plan.Sending.{Sending}
-use Rattle.sending.specs.declared.plan.Plan.TheVariants.{Send}
 use Rattle.sending.proofs.Planned.{accepted}
 
 module _ (z : Sizes) (s : State) (output : List ℕ) (g : Opened z s output) where
   pub ready : (i : Item) (q : Sending) (payload : List ℕ)
-      → plan_of z s.acks.counters.sequence_number.0 s.ordered.counters s.sequenced (table_of z s.acks.number) i (length payload) ≡ Send q
+      → plan_of z s.acks.counters.sequence_number.0 s.ordered.counters s.sequenced (table_of z s.acks.number) i (length payload) ≡ Ok q
       → SendReady z (counters_of s) s.acks.received s.acks.number s.acks.records s.acks.bytes i q payload output
   ready i q payload e =
       let a = accepted z s.acks.counters.sequence_number.0 s.ordered.counters s.sequenced (table_of z s.acks.number) i (length payload) (omega (arith, whole z s output g, g.within_range.n.0)) g.ordered.four g.four q e in

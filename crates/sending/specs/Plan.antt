@@ -1,5 +1,5 @@
 -- Document 01: what is to become of an item that is sent. "For sending: 1, 2, 13, 4 (combination not listed for type 0), 5, 8, 7, 6."
-use Rattle.std.specs.Prelude.{ℕ, Bool, true, false, cond, not, ◌&&◌, ◌||◌, List, ltb, eqb}
+use Rattle.std.specs.Prelude.{ℕ, Bool, true, false, cond, not, ◌&&◌, ◌||◌, List, ltb, eqb, Result, Ok, Err}
 use Rattle.terms.specs.declared.Sizes.{Sizes}
 use Rattle.terms.specs.declared.Refusal.TheVariants.{BadHeader, TooLong, Full, NoStream, ExceededMaxFragments}
 use Rattle.packet_table.specs.Table.{rule, listed}
@@ -15,8 +15,8 @@ use Rattle.arranging_plan.specs.Ids.{place_of}
 use Rattle.arranging_plan.specs.declared.ordered.OrderingStreams.{OrderingStreams}
 use Rattle.arranging.specs.declared.sequenced.SequencingStreams.{SequencingStreams}
 use Rattle.datagrams.specs.declared.Item.{Item}
-use Rattle.sending.specs.declared.plan.Plan.{Plan}
-use Rattle.sending.specs.declared.plan.Plan.TheVariants.{Refuse, Send}
+use Rattle.terms.specs.declared.Refusal.{Refusal}
+use Rattle.sending.specs.declared.plan.Sending.{Sending}
 
 -- 4: "combination not listed for type 0"
 abbrev pub is_listed : Item → Bool
@@ -51,11 +51,11 @@ flight_place Unreliable n number = 0
 flight_place Reliable n number = place_in_flight n (numbers_in number)
 
 -- n is the local number, `number` the N places in flight
-unfoldable pub plan_of : Sizes → ℕ → OrderingStreams → SequencingStreams → List ℕ → Item → ℕ → Plan
+unfoldable pub plan_of : Sizes → ℕ → OrderingStreams → SequencingStreams → List ℕ → Item → ℕ → Result Sending Refusal
 plan_of z n ordered sequenced number i length =
-    cond (not (is_listed i)) (Refuse BadHeader)
-    (cond (is_long z.fragment_size i length) (Refuse TooLong)
-    (cond (ltb z.max_fragments (needed length z.fragment_size)) (Refuse ExceededMaxFragments)
-    (cond (eqb (stream_place i ordered sequenced) 4) (Refuse NoStream)
-    (cond (is_full i.delivery n number) (Refuse Full)
-    (Send (record { at = flight_place i.delivery n number; stream = stream_place i ordered sequenced }))))))
+    cond (not (is_listed i)) (Err BadHeader)
+    (cond (is_long z.fragment_size i length) (Err TooLong)
+    (cond (ltb z.max_fragments (needed length z.fragment_size)) (Err ExceededMaxFragments)
+    (cond (eqb (stream_place i ordered sequenced) 4) (Err NoStream)
+    (cond (is_full i.delivery n number) (Err Full)
+    (Ok (record { at = flight_place i.delivery n number; stream = stream_place i ordered sequenced }))))))

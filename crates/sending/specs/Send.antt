@@ -1,6 +1,6 @@
 -- Document 01, module 7: "Sending: a reliable item takes one packet number, also when it goes as fragments." "A resend .. is checked
 -- in the sending order, takes a new packet number and keeps its item identifier."
-use Rattle.std.specs.Prelude.{ℕ, ◌+◌, ◌*◌, ◌≤◌, ◌<◌, ◌≡◌, true, false, List, length, set}
+use Rattle.std.specs.Prelude.{ℕ, ◌+◌, ◌*◌, ◌≤◌, ◌<◌, ◌≡◌, true, false, List, length, set, Result, Ok, Err}
 use Rattle.std.proofs.Math.Seq.{paste}
 use Rattle.serial.specs.declared.ItemId.{ItemId}
 use Rattle.terms.specs.Sizes.{in_range}
@@ -33,13 +33,11 @@ use Rattle.datagrams.specs.Datagrams.{datagram_for, count_of}
 use Rattle.datagrams.specs.declared.Item.{Item}
 use Rattle.datagrams.specs.declared.Identifier.{Identifier}
 use Rattle.datagrams.specs.declared.Identifier.TheVariants.{Next, Again}
-use Rattle.sending.specs.declared.Answer.{Answer}
-use Rattle.sending.specs.declared.Answer.TheVariants.{Datagram, Refused}
 use Rattle.sending.specs.declared.Sent.{Sent}
 use Rattle.sending.specs.declared.effects.Identified.{Identified}
 use Rattle.sending.specs.declared.plan.Sending.{Sending}
-use Rattle.sending.specs.declared.plan.Plan.{Plan}
-use Rattle.sending.specs.declared.plan.Plan.TheVariants.{Refuse, Send}
+use Rattle.terms.specs.declared.Refusal.{Refusal}
+use Rattle.sending.specs.declared.Written.{Written}
 
 -- "each sending stream numbers its own items from 0, adding one with wrap-around at each accepted send that is no resend"; either
 -- way a stream is made by its first accepted item
@@ -109,9 +107,9 @@ kept_in z end number records bytes i q payload =
 abbrev pub datagram_in : Sizes → End → List ℕ → Item → Sending → List ℕ → List ℕ
 datagram_in z end received i q payload = datagram_for z.version z.fragment_size i (identified_in end i q).item end.acks received payload
 
-abbrev pub answer_for : Sizes → End → List ℕ → Item → Sending → List ℕ → Answer
+abbrev pub answer_for : Sizes → End → List ℕ → Item → Sending → List ℕ → Result Written Refusal
 answer_for z end received i q payload =
-    Datagram (record {
+    Ok (record {
       number = end.acks.sequence_number;
       datagrams = count_of z.fragment_size (length payload);
       length = length (datagram_in z end received i q payload);
@@ -146,16 +144,16 @@ pub record SendReady (z : Sizes) (end : End) (received number records bytes : Li
 
 -- what a call answers, and what it leaves of the end and of the output
 pub record Step : Type 0 where
-  pub answer : Answer
+  pub answer : Result Written Refusal
   pub end : State
   pub output : List ℕ
 
 abbrev pub keeping : Kept → Acks → Acks
 keeping t a = record { counters = t.counters; received = a.received; number = t.number; records = t.records; bytes = t.bytes }
 
-abbrev pub transmitted_as : Plan → Sizes → State → Item → List ℕ → List ℕ → Step
-transmitted_as (Refuse why) z s i payload output = record { answer = Refused why; end = s; output = output }
-transmitted_as (Send q) z s i payload output =
+abbrev pub transmitted_as : Result Sending Refusal → Sizes → State → Item → List ℕ → List ℕ → Step
+transmitted_as (Err why) z s i payload output = record { answer = Err why; end = s; output = output }
+transmitted_as (Ok q) z s i payload output =
     record {
       answer = answer_for z (counters_of s) s.acks.received i q payload;
       end = record {
@@ -184,6 +182,6 @@ pub record Sends (t : Step) (r : Sent) (received number records payloads slots e
   pub output_is : output ≡ t.output
 
 -- 01's number for each answer, 0 where nothing is refused
-abbrev pub number_of_sent : Answer → ℕ
-number_of_sent (Datagram d) = 0
-number_of_sent (Refused why) = number_of why
+abbrev pub number_of_sent : Result Written Refusal → ℕ
+number_of_sent (Ok d) = 0
+number_of_sent (Err why) = number_of why

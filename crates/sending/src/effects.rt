@@ -4,14 +4,14 @@ ghost use Rattle.received.specs.Record.{KnownLapped};
 ghost use Rattle.sending.specs.Send.{identified_of, sequenced_as, ordered_as, kept_by, Keeping, record_of, SendReady, Performs};
 
 use crate::plan::Sending;
-use crate::{Answer, Sent, Written};
+use crate::{Sent, Written};
 use acks::Acknowledgment;
 use arranging::ordered::OrderingStreams;
 use arranging::sequenced::SequencingStreams;
 use datagrams::{Identifier, Item};
 use ends::End;
 use flight::SentPacket;
-use packet::{DeliveryGuarantee, OrderingGuarantee, table};
+use packet::{DeliveryGuarantee, OrderingGuarantee};
 use serial::ItemId;
 use terms::Sizes;
 
@@ -69,7 +69,7 @@ pub fn perform(
             ordering,
             sequencing,
         },
-        answer: Answer::Datagram(Written {
+        answer: Ok(Written {
             number: packet,
             datagrams,
             length,
@@ -192,9 +192,8 @@ fn keep(
 fn record(item: Item, id: ItemId) -> SentPacket
     ensures { result ≡ record_of item id }
 {
-    let ordering = item.ordering;
     SentPacket {
-        ordering: table::ordering_number(ordering),
+        ordering: u8::from(item.ordering),
         stream: item.stream,
         item: id,
     }

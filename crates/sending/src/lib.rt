@@ -3,8 +3,7 @@
 // `datagrams`, when to send again, and the users' calls with their gate, which are `link`.
 #![tactic(auto)]
 
-ghost use Rattle.std.specs.Prelude.{◌≡◌};
-ghost use Rattle.terms.specs.declared.Gate.TheVariants.{Open};
+ghost use Rattle.std.specs.Prelude.{◌≡◌, Ok};
 ghost use Rattle.received.specs.Record.{KnownLapped};
 ghost use Rattle.flight_home.specs.AtHome.{KnownHome};
 ghost use Rattle.acks.specs.State.{table_of};
@@ -14,7 +13,6 @@ ghost use Rattle.sending.specs.Send.{transmitted_of, Sends};
 
 use datagrams::Item;
 use ends::End;
-use plan::Plan;
 use serial::PacketNumber;
 use terms::{Refusal, Sizes};
 
@@ -31,15 +29,9 @@ pub struct Written {
 }
 
 #[derive(Clone, Copy)]
-pub enum Answer {
-    Datagram(Written),
-    Refused(Refusal),
-}
-
-#[derive(Clone, Copy)]
 pub struct Sent {
     pub end: End,
-    pub answer: Answer,
+    pub answer: Result<Written, Refusal>,
 }
 
 // An item is sent. For the crates above: requires an end that the gate lets through, and what is said of it: packets in
@@ -64,7 +56,7 @@ pub fn transmit(
     home: bool,
     lapped: bool,
 ) -> Sent
-    requires { (gate_of sizes (lending end received.now number.old records.old payloads.old slots.now entry.now header.now joined.now index.now lengths.now held.now) output.old ≡ Open) × KnownHome home (table_of sizes number.old) × KnownLapped lapped received.now }
+    requires { (gate_of sizes (lending end received.now number.old records.old payloads.old slots.now entry.now header.now joined.now index.now lengths.now held.now) output.old ≡ Ok tt) × KnownHome home (table_of sizes number.old) × KnownLapped lapped received.now }
     ensures { Sends (transmitted_of sizes (lending end received.now number.old records.old payloads.old slots.now entry.now header.now joined.now index.now lengths.now held.now) item payload.now output.old)
         result received.now number.new records.new payloads.new slots.now entry.now header.now joined.now index.now lengths.now held.now output.new }
 {
@@ -80,11 +72,11 @@ pub fn transmit(
         home,
     );
     match plan {
-        Plan::Refuse(why) => Sent {
+        Err(why) => Sent {
             end,
-            answer: Answer::Refused(why),
+            answer: Err(why),
         },
-        Plan::Send(sending) => effects::perform(
+        Ok(sending) => effects::perform(
             sizes, end, received, number, records, payloads, item, sending, payload, output, lapped,
         ),
     }

@@ -1,6 +1,7 @@
 // What is to become of an item that is sent: nothing is written before that is known.
 ghost use Rattle.std.specs.Prelude.{◌≡◌, true, ◌≤◌, length};
 ghost use Rattle.terms.specs.Sizes.{in_range};
+ghost use Rattle.keys.specs.Keys.{found};
 ghost use Rattle.flight_home.specs.AtHome.{KnownHome};
 ghost use Rattle.sending.specs.Plan.{is_listed, is_split, is_long, stream_place, flight_place, plan_of};
 
@@ -19,12 +20,6 @@ pub struct Sending {
     pub stream: usize,
 }
 
-#[derive(Clone, Copy)]
-pub enum Plan {
-    Refuse(Refusal),
-    Send(Sending),
-}
-
 // 4, 5, 8, 7, 6. Requires sizes in range, N places in flight, at home where they are said to be, and sound streams.
 pub fn judge(
     sizes: Sizes,
@@ -35,30 +30,29 @@ pub fn judge(
     item: Item,
     size: usize,
     home: bool,
-) -> Plan
+) -> Result<Sending, Refusal>
     requires { (in_range sizes ≡ true) × (length number.now ≡ sizes.packets_in_flight) × (ordered.known.made ≤ 4) × (sequenced.known.made ≤ 4) × KnownHome home number.now }
     ensures { result ≡ plan_of sizes acks.sequence_number.0 ordered sequenced number.now item size }
 {
     if !is_listed(item) {
-        return Plan::Refuse(Refusal::BadHeader);
+        return Err(Refusal::BadHeader);
     }
     let f = sizes.fragment_size;
     if is_long(f, item, size) {
-        return Plan::Refuse(Refusal::TooLong);
+        return Err(Refusal::TooLong);
     }
     if sizes.max_fragments < datagrams::count(f, size) {
-        return Plan::Refuse(Refusal::ExceededMaxFragments);
+        return Err(Refusal::ExceededMaxFragments);
     }
     let stream = stream_place(item, ordered, sequenced);
     if stream == 4 {
-        return Plan::Refuse(Refusal::NoStream);
+        return Err(Refusal::NoStream);
     }
     let delivery = item.delivery;
-    let at = flight_place(delivery, number, acks.sequence_number, home);
-    if at == number.len() {
-        return Plan::Refuse(Refusal::Full);
-    }
-    Plan::Send(Sending { at, stream })
+    let Some(at) = flight_place(delivery, number, acks.sequence_number, home) else {
+        return Err(Refusal::Full);
+    };
+    Ok(Sending { at, stream })
 }
 
 // Not 4: the combination is listed for a packet.
@@ -85,56 +79,40 @@ fn is_long(f: usize, item: Item, size: usize) -> bool
     if size <= f {
         return false;
     }
-    let delivery = item.delivery;
-    let ordering = item.ordering;
-    !is_split(delivery, ordering)
+    !is_split(item.delivery, item.ordering)
 }
 
 // Only a reliable and unordered item goes as fragments.
 fn is_split(delivery: DeliveryGuarantee, ordering: OrderingGuarantee) -> bool
     ensures { result ≡ is_split delivery ordering }
 {
-    match delivery {
-        DeliveryGuarantee::Unreliable => false,
-        DeliveryGuarantee::Reliable => match ordering {
-            OrderingGuarantee::None => true,
-            OrderingGuarantee::Sequenced => false,
-            OrderingGuarantee::Ordered => false,
-        },
-    }
+    delivery == DeliveryGuarantee::Reliable && ordering == OrderingGuarantee::None
 }
 
-// The place of an item's stream, 4 where it would be a fifth.
+// The place of an item's stream, 4 where it would be a fifth: a number and no Option, since a new stream is made there.
 fn stream_place(item: Item, ordered: OrderingStreams, sequenced: SequencingStreams) -> usize
     requires { (ordered.known.made ≤ 4) × (sequenced.known.made ≤ 4) }
     ensures { result ≡ stream_place item ordered sequenced }
 {
-    let ordering = item.ordering;
-    match ordering {
+    match item.ordering {
         OrderingGuarantee::None => 0,
-        OrderingGuarantee::Sequenced => {
-            let known = sequenced.known;
-            known.place(item.stream)
-        }
-        OrderingGuarantee::Ordered => {
-            let known = ordered.known;
-            known.place(item.stream)
-        }
+        OrderingGuarantee::Sequenced => sequenced.known.place(item.stream),
+        OrderingGuarantee::Ordered => ordered.known.place(item.stream),
     }
 }
 
-// Where a reliable packet goes in flight, the number of places where there is no room.
+// Where a reliable packet goes in flight, if there is room.
 fn flight_place(
     delivery: DeliveryGuarantee,
     number: &[u32],
     packet: PacketNumber,
     home: bool,
-) -> usize
+) -> Option<usize>
     requires { (1 ≤ length number.now) × KnownHome home number.now }
-    ensures { result ≡ flight_place delivery packet.0 number.now }
+    ensures { result ≡ found (flight_place delivery packet.0 number.now) (length number.now) }
 {
     match delivery {
-        DeliveryGuarantee::Unreliable => 0,
+        DeliveryGuarantee::Unreliable => Some(0),
         DeliveryGuarantee::Reliable => flight_home::direct::place(number, packet, home),
     }
 }

@@ -1,9 +1,8 @@
 -- Document 01, module 1: what a sequence buffer holds, and what inserting and removing a number make of it.
 -- A slot has a number below 65,536, or none: any value from 65,536 on. The slot count is the number of slots.
-use Rattle.std.specs.Prelude.{ℕ, ◌%◌, Bool, cond, ◌&&◌, ◌||◌, List, map, length, get_or, set, replicate, ltb, leb, eqb}
+use Rattle.std.specs.Prelude.{ℕ, ◌%◌, Bool, cond, ◌&&◌, ◌||◌, List, map, length, get_or, set, replicate, ltb, leb, eqb, Some, None}
 use Rattle.serial.specs.Order.{greater, next, back}
 use Rattle.sequence_buffer.specs.declared.Inserted.{Inserted}
-use Rattle.sequence_buffer.specs.declared.Insertion.TheVariants.{TooOld, At}
 
 -- no number
 abbrev pub none : ℕ
@@ -52,7 +51,7 @@ inserted_num num slots n = cond (too_old num slots n) num (advanced_num num n)
 unfoldable pub inserted : ℕ → List ℕ → ℕ → Inserted
 inserted num slots n = record {
   sequence_num = record { 0 = inserted_num num slots n };
-  insertion = cond (too_old num slots n) TooOld (At (n % length slots));
+  insertion = cond (too_old num slots n) None (Some (n % length slots));
 }
 
 -- `remove` empties the number's slot where that has the number

@@ -14,20 +14,14 @@ use serial::PacketNumber;
 // that keep only the bits which all entries have.
 pub const NONE: u32 = 4294967295;
 
-// What became of a number: too old, or it stands in a slot.
-#[derive(Clone, Copy)]
-pub enum Insertion {
-    TooOld,
-    At(usize),
-}
-
-#[derive(Clone, Copy)]
+#[derive(Clone, Copy, PartialEq, Eq, Debug)]
 pub struct Inserted {
     pub sequence_num: PacketNumber,
-    pub insertion: Insertion,
+    pub insertion: Option<usize>,
 }
 
 // Puts a number into its slot, unless it is too old. Requires 1 to 64 slots.
+#[tactic(auto, unfolding(crate::specs::Buffer::inserted, crate::specs::Buffer::inserted_num, crate::specs::Buffer::inserted_slots))]
 pub fn insert(sequence_num: PacketNumber, slots: &mut [u32], number: PacketNumber) -> Inserted
     requires { (1 ≤ length slots.old) × (length slots.old ≤ 64) }
     ensures value { result ≡ inserted sequence_num.0 slots.old number.0 }
@@ -37,7 +31,7 @@ pub fn insert(sequence_num: PacketNumber, slots: &mut [u32], number: PacketNumbe
     if too_old(sequence_num, slots, number) {
         return Inserted {
             sequence_num,
-            insertion: Insertion::TooOld,
+            insertion: None,
         };
     }
     let after = advance_sequence(sequence_num.0, slots, number.0);
@@ -45,7 +39,7 @@ pub fn insert(sequence_num: PacketNumber, slots: &mut [u32], number: PacketNumbe
     slots[at] = number.0 as u32;
     Inserted {
         sequence_num: PacketNumber(after),
-        insertion: Insertion::At(at),
+        insertion: Some(at),
     }
 }
 
@@ -70,6 +64,7 @@ pub fn exists(slots: &[u32], number: PacketNumber) -> bool
 }
 
 // Takes a number out of its slot, and says whether it was there. Requires 1 to 64 slots.
+#[tactic(auto, unfolding(crate::specs::Buffer::removed_slots))]
 pub fn remove(slots: &mut [u32], number: PacketNumber) -> bool
     requires { (1 ≤ length slots.old) × (length slots.old ≤ 64) }
     ensures value { result ≡ holds slots.old number.0 }
@@ -88,11 +83,7 @@ pub fn new(slots: &mut [u32]) -> PacketNumber
     ensures result_value { result.0 ≡ 0 }
     ensures slots_after { slots.new ≡ fresh (length slots.old) }
 {
-    let mut i: usize = 0;
-    while i < slots.len() {
-        slots[i] = NONE;
-        i += 1;
-    }
+    slots.fill(NONE);
     PacketNumber(0)
 }
 
@@ -105,6 +96,7 @@ pub fn slot(size: usize, number: PacketNumber) -> usize
 }
 
 // Moves on to a number that is as new as `sequence_num` or newer, removing the entries that it passes.
+#[tactic(auto, unfolding(crate::specs::Buffer::advanced_num, crate::specs::Buffer::advanced_slots))]
 fn advance_sequence(sequence_num: u16, slots: &mut [u32], number: u16) -> u16
     ensures value { result ≡ advanced_num sequence_num number }
     ensures slots_after { slots.new ≡ advanced_slots sequence_num slots.old number }
@@ -125,21 +117,17 @@ fn remove_entries(slots: &mut [u32], whole: bool, from: u16, to: u16)
     if nothing_goes(slots, whole, from, to) {
         return;
     }
-    let mut i: usize = 0;
-    while i < slots.len() {
-        slots[i] = without_passed(slots[i], whole, from, to);
-        i += 1;
+    for entry in slots.iter_mut() {
+        *entry = without_passed(*entry, whole, from, to);
     }
 }
 
 // A number that comes in order passes only itself, and it is not there. A `false` says nothing.
+#[tactic(auto, using(crate::proofs::Passes::none_go))]
 fn nothing_goes(slots: &[u32], whole: bool, from: u16, to: u16) -> bool
     ensures { result ≡ true → slots.now ≡ map (emptied (goes whole from to)) slots.now }
 {
-    if whole {
-        return false;
-    }
-    if from != to {
+    if whole || from != to {
         return false;
     }
     !stands(slots, to)
@@ -150,32 +138,27 @@ fn stands(slots: &[u32], number: u16) -> bool
     ensures { result ≡ false → (j : ℕ) → j < length slots.now → get_or slots.now j 0 ≡ number → ⊥ }
 {
     let mut found = false;
-    let mut i: usize = 0;
-    while i < slots.len() {
-        if slots[i] == number as u32 {
-            found = true;
-        }
-        i += 1;
+    for entry in slots {
+        found |= *entry == number as u32;
     }
     found
 }
 
 // An entry, or none where it goes.
+#[tactic(auto, unfolding(crate::specs::Buffer::goes, crate::specs::Buffer::emptied))]
 fn without_passed(entry: u32, whole: bool, from: u16, to: u16) -> u32
     ensures { result ≡ emptied (goes whole from to) entry }
 {
-    if whole {
+    if whole
+        || entry < 65536 && serial::distance(entry as u16, from) <= serial::distance(to, from)
+    {
         return NONE;
-    }
-    if entry < 65536 {
-        if serial::distance(entry as u16, from) <= serial::distance(to, from) {
-            return NONE;
-        }
     }
     entry
 }
 
 // What holds of every buffer, for every slot count. It has no code: its contract is the theorem.
+#[tactic(auto, using(crate::proofs::Home::facts))]
 pub fn slot_facts()
     ensures { SlotFacts }
 {}

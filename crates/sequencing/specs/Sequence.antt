@@ -1,6 +1,5 @@
 -- Document 01, module 5: what becomes of an item that has come on a sequenced stream.
-use Rattle.std.specs.Prelude.{ℕ, cond, List, leb}
-use Rattle.std.proofs.Math.Option.{Option, none, some}
+use Rattle.std.specs.Prelude.{ℕ, cond, List, leb, Option, Some, None}
 use Rattle.serial.specs.Order.{back, next}
 use Rattle.serial.specs.declared.ItemId.{ItemId}
 use Rattle.sequencing.specs.declared.SequencingStream.{SequencingStream}
@@ -24,8 +23,8 @@ number_of_sequenced Dropped = 0
 
 -- what each hands out
 abbrev pub handed_out : Sequenced → List ℕ → Option (List ℕ)
-handed_out Out payload = some payload
-handed_out Dropped payload = none
+handed_out Out payload = Some payload
+handed_out Dropped payload = None
 
 -- "and top becomes the index"
 abbrev pub topped : Sequenced → SequencingStream → ItemId → SequencingStream

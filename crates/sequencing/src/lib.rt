@@ -49,14 +49,10 @@ impl SequencingStream {
         ensures { result ≡ numbered self }
     {
         let item = self.next_item;
-        let top_index = self.top_index;
         let next_item = item.successor();
         NewItem {
             item,
-            stream: SequencingStream {
-                top_index,
-                next_item,
-            },
+            stream: SequencingStream { next_item, ..self },
         }
     }
 }
@@ -65,9 +61,7 @@ impl SequencingStream {
 pub fn arrange(stream: SequencingStream, item: ItemId) -> AfterArrange
     ensures { result ≡ arranged stream item }
 {
-    let top = stream.top_index;
-    let next_item = stream.next_item;
-    if 32768 < serial::distance(item.0, top.0) {
+    if 32768 < serial::distance(item.0, stream.top_index.0) {
         return AfterArrange {
             answer: Sequenced::Dropped,
             stream,
@@ -77,7 +71,7 @@ pub fn arrange(stream: SequencingStream, item: ItemId) -> AfterArrange
         answer: Sequenced::Out,
         stream: SequencingStream {
             top_index: item,
-            next_item,
+            ..stream
         },
     }
 }

@@ -7,13 +7,14 @@ ghost use Rattle.serial.specs.Order.{greater, next, back};
 ghost use Rattle.serial.specs.Agreement.{AgreesWithRfc1982};
 
 // The number of a packet.
-#[derive(Clone, Copy)]
+#[derive(Clone, Copy, PartialEq, Eq, Debug)]
 pub struct PacketNumber(pub u16);
 
 // The number of an item among those of its stream. It never stands for a packet's.
-#[derive(Clone, Copy)]
+#[derive(Clone, Copy, PartialEq, Eq, Debug)]
 pub struct ItemId(pub u16);
 
+// The same method for each of the two: a trait for one line would have to be imported by every caller.
 impl PacketNumber {
     pub fn successor(self) -> PacketNumber
         ensures { result.0 ≡ next self.0 }
@@ -31,6 +32,7 @@ impl ItemId {
 }
 
 // a comes after b.
+#[tactic(auto, unfolding(crate::specs::Order::greater))]
 pub fn sequence_greater_than(a: u16, b: u16) -> bool
     ensures { result ≡ greater a b }
 {
@@ -48,17 +50,18 @@ pub fn sequence_less_than(a: u16, b: u16) -> bool
 pub fn successor(a: u16) -> u16
     ensures { result ≡ next a }
 {
-    std::num::wrapping_add_u16(a, 1)
+    a.wrapping_add(1)
 }
 
 // a - b, with wrap-around: how far a is from b, and the number that is b before a.
 pub fn distance(a: u16, b: u16) -> u16
     ensures { result ≡ back a b }
 {
-    std::num::wrapping_sub_u16(a, b)
+    a.wrapping_sub(b)
 }
 
 // The order is RFC 1982's wherever that defines one. It has no code: its contract is the theorem.
+#[tactic(auto, using(crate::proofs::Agrees::agreement))]
 pub fn rfc1982()
     ensures { AgreesWithRfc1982 }
 {}

@@ -3,8 +3,8 @@
 use mathlib.Core.Path.{◌≡◌, refl, sym, ap, ◌∙◌}
 use mathlib.Core.Logic.{⊎_elim}
 use mathlib.Core.List.{List, [], ◌∷◌, ◌++◌, flatten}
-use Prim.Native.Nat.{ℕ, zero, suc, ◌+◌, ◌-◌, ◌*◌, ◌/◌, ◌%◌, ◌≤◌, ◌<◌}
-use native.Mathlib.Nat.{zero-mul, suc-mul, mul-one, zero-div, zero-mod, div-eq_of_lt, mod-eq_of_lt, div-eq-sub-div, mod-eq-sub-mod, div-add-mod', mul-le-mul_left, not-suc-le-zero, le_of_suc-le-suc}
+use Prim.Native.Nat.{ℕ, zero, suc, ◌+◌, ◌-◌, ◌*◌, ◌≤◌, ◌<◌}
+use native.Mathlib.Nat.{zero-mul, suc-mul, zero-div, zero-mod, div-eq_of_lt, mod-eq_of_lt, div-eq-sub-div, mod-eq-sub-mod, not-suc-le-zero, le_of_suc-le-suc}
 use native.Mathlib.Omega.{arith}
 use lib.ListN.{length, get_or, take, drop, length-take, length-drop, take-append-drop}
 use lib.Seq.{take-nil, drop-nil, drop-drop, length-take-le}
@@ -39,10 +39,6 @@ begins f zero (suc n) some h = rw (zero-mul f) (omega arith)
 begins f (suc j) zero some h = absurd (not-suc-le-zero (rw (none_needed f) at h))
 begins f (suc j) (suc n) some h =
     rw (suc-mul j f) (omega (arith, begins f j (suc n - f) some (le_of_suc-le-suc (rw (needed_step n f some) at h))))
-
--- a remainder leaves room for one more in the quotient's type
-pub one_more : (n f : ℕ) → 1 ≤ f → 0 < n % f → n / f + 1 ≤ n
-one_more n f some h = omega (arith, div-add-mod' n f, rw (mul-one (n / f)) at (mul-le-mul_left {m = 1} {n = f} (n / f) some))
 
 counted : (most f : ℕ) (l : List ℕ) → 1 ≤ f → length l ≤ most → length (cut most f l) ≡ needed (length l) f
 unfolding cut

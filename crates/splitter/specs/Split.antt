@@ -1,12 +1,11 @@
 -- Document 01, module 3: "Pieces of F, the last shorter; an empty payload has none."
-use Rattle.std.specs.Prelude.{ℕ, zero, suc, ◌+◌, ◌*◌, ◌/◌, ◌%◌, ◌≤◌, ◌<◌, cond, not, ◌≡◌, length, get_or, take, drop, ltb}
+use Rattle.std.specs.Prelude.{ℕ, zero, suc, ◌+◌, ◌*◌, ◌/◌, ◌%◌, ◌≤◌, ◌<◌, cond, not, ◌≡◌, length, get_or, take, drop, ltb, Result, Ok, Err}
 use mathlib.Core.List.{List, [], ◌∷◌, flatten}
 use Rattle.terms.specs.Refusals.{number_of}
 use Rattle.terms.specs.Sizes.{in_range}
 use Rattle.terms.specs.declared.Sizes.{Sizes}
 use Rattle.terms.specs.declared.Refusal.TheVariants.{BadSizes, TooLong, ExceededMaxFragments}
-use Rattle.splitter.specs.declared.Split.{Split}
-use Rattle.splitter.specs.declared.Split.TheVariants.{Pieces, Refused}
+use Rattle.terms.specs.declared.Refusal.{Refusal}
 
 -- the first `most` pieces of f bytes
 unfoldable pub cut : ℕ → ℕ → List ℕ → List (List ℕ)
@@ -23,17 +22,17 @@ unfoldable pub needed : ℕ → ℕ → ℕ
 needed n f = n / f + cond (ltb 0 (n % f)) 1 0
 
 -- 1; 5: "a payload to send over 65,535"; 8: "sending: more than M needed"
-unfoldable pub split_of : Sizes → ℕ → Split
+unfoldable pub split_of : Sizes → ℕ → Result ℕ Refusal
 split_of s n =
-    cond (not (in_range s)) (Refused BadSizes)
-    (cond (ltb 65535 n) (Refused TooLong)
-    (cond (ltb s.max_fragments (needed n s.fragment_size)) (Refused ExceededMaxFragments)
-    (Pieces (needed n s.fragment_size))))
+    cond (not (in_range s)) (Err BadSizes)
+    (cond (ltb 65535 n) (Err TooLong)
+    (cond (ltb s.max_fragments (needed n s.fragment_size)) (Err ExceededMaxFragments)
+    (Ok (needed n s.fragment_size))))
 
 -- 01's number for each answer, 0 where nothing is refused
-abbrev pub number_of_split : Split → ℕ
-number_of_split (Pieces count) = 0
-number_of_split (Refused why) = number_of why
+abbrev pub number_of_split : Result ℕ Refusal → ℕ
+number_of_split (Ok count) = 0
+number_of_split (Err why) = number_of why
 
 -- what the pieces of a payload are
 pub record Splits : Type 0 where

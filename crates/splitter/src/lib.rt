@@ -7,28 +7,21 @@ ghost use Rattle.splitter.specs.Split.{needed, pieces, split_of, Splits};
 
 use terms::{Refusal, Sizes};
 
-// A payload's number of pieces, or why it is not split.
-#[derive(Clone, Copy)]
-pub enum Split {
-    Pieces(usize),
-    Refused(Refusal),
-}
-
 // 1, 5 over 65,535 bytes, 8 where more than M pieces are needed.
-pub fn check(sizes: Sizes, length: usize) -> Split
+pub fn check(sizes: Sizes, length: usize) -> Result<usize, Refusal>
     ensures { result ≡ split_of sizes length }
 {
     if !sizes.in_range() {
-        return Split::Refused(Refusal::BadSizes);
+        return Err(Refusal::BadSizes);
     }
     if 65535 < length {
-        return Split::Refused(Refusal::TooLong);
+        return Err(Refusal::TooLong);
     }
     let count = fragments_needed(length, sizes.fragment_size);
     if sizes.max_fragments < count {
-        return Split::Refused(Refusal::ExceededMaxFragments);
+        return Err(Refusal::ExceededMaxFragments);
     }
-    Split::Pieces(count)
+    Ok(count)
 }
 
 // How many pieces a length has. For the crates above: requires F from 1 to 1,024.
@@ -36,10 +29,7 @@ pub fn fragments_needed(length: usize, f: usize) -> usize
     requires { (1 ≤ f) × (f ≤ 1024) }
     ensures { result ≡ needed length f }
 {
-    if 0 < length % f {
-        return length / f + 1;
-    }
-    length / f
+    length.div_ceil(f)
 }
 
 // Piece j. For the crates above: requires F from 1 to 1,024, and j below the number of pieces.

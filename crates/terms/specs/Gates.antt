@@ -1,8 +1,7 @@
 -- "Order: 1, 2, 13; then ..": through an open gate a call says what it says, a shut one refuses it.
+use Rattle.std.specs.Prelude.{Result, Ok, Err, ⊤}
 use Rattle.terms.specs.declared.Refusal.{Refusal}
-use Rattle.terms.specs.declared.Gate.{Gate}
-use Rattle.terms.specs.declared.Gate.TheVariants.{Open, Shut}
 
-abbrev pub through : {A : Type 0} → Gate → (Refusal → A) → A → A
-through (Shut why) refused answer = refused why
-through Open refused answer = answer
+abbrev pub through : {A : Type 0} → Result ⊤ Refusal → (Refusal → A) → A → A
+through (Err why) refused answer = refused why
+through (Ok tt) refused answer = answer

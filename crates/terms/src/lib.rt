@@ -4,12 +4,12 @@
 
 ghost use Rattle.std.specs.Prelude.{◌≡◌};
 ghost use Rattle.terms.specs.Refusals.{number_of};
-ghost use Rattle.terms.specs.Sizes.{between, in_range};
+ghost use Rattle.terms.specs.Sizes.{in_range};
 
 // Document 01, "Numbers that come back", in its order.
-#[derive(Clone, Copy)]
+#[derive(Clone, Copy, PartialEq, Eq, Debug)]
 pub enum Refusal {
-    BadSizes,
+    BadSizes = 1,
     BadStorage,
     CouldNotReadHeader,
     BadHeader,
@@ -25,31 +25,12 @@ pub enum Refusal {
 }
 
 // The number that document 01 gives a refusal.
-pub fn number(refusal: Refusal) -> u8
-    ensures { result ≡ number_of refusal }
-{
-    match refusal {
-        Refusal::BadSizes => 1,
-        Refusal::BadStorage => 2,
-        Refusal::CouldNotReadHeader => 3,
-        Refusal::BadHeader => 4,
-        Refusal::TooLong => 5,
-        Refusal::Full => 6,
-        Refusal::NoStream => 7,
-        Refusal::ExceededMaxFragments => 8,
-        Refusal::CouldNotFindFragmentById => 9,
-        Refusal::FragmentWithUnevenNumberOfFragments => 10,
-        Refusal::AlreadyProcessedFragment => 11,
-        Refusal::MissingAckHeader => 12,
-        Refusal::BadState => 13,
-    }
-}
+impl From<Refusal> for u8 {
+    ghost from_gives = { λ refusal number. number ≡ number_of refusal };
 
-// What a call of a user finds where it tries 1, 2 and 13 first.
-#[derive(Clone, Copy)]
-pub enum Gate {
-    Open,
-    Shut(Refusal),
+    fn from(refusal: Refusal) -> u8 {
+        refusal as u8
+    }
 }
 
 // Document 01, "Sizes of a link". Any numbers may be given: those out of range are refused.
@@ -68,24 +49,13 @@ pub struct Sizes {
 }
 
 impl Sizes {
+    #[tactic(auto, unfolding(crate::specs::Sizes::between, crate::specs::Sizes::in_range))]
     pub fn in_range(self) -> bool
         ensures { result ≡ in_range self }
     {
-        if !within(self.fragment_size, 1024) {
-            return false;
-        }
-        if !within(self.reassembly_slots, 64) {
-            return false;
-        }
-        if !within(self.max_fragments, 16) {
-            return false;
-        }
-        within(self.packets_in_flight, 256)
+        (1..=1024).contains(&self.fragment_size)
+            && (1..=64).contains(&self.reassembly_slots)
+            && (1..=16).contains(&self.max_fragments)
+            && (1..=256).contains(&self.packets_in_flight)
     }
-}
-
-fn within(size: usize, most: usize) -> bool
-    ensures { result ≡ between size most }
-{
-    1 <= size && size <= most
 }

@@ -1,83 +1,60 @@
--- A rung of the ladder for each refusal (`not_heard`), then what the step says of the table, with the rest of the column behind it.
-use mathlib.Core.Path.{◌≡◌, sym, ap, ◌∙◌}
-use mathlib.Core.Bool.{true, false}
+-- A refusal leaves everything (`not_heard`); past 1, 2 and 13 the table is heard of (`past`).
+use mathlib.Core.Path.{sym, ap, ◌∙◌}
 use mathlib.Core.List.{List, ◌++◌}
 use Prim.Native.Nat.{ℕ}
 use native.Mathlib.Omega.{arith}
-use lib.ListN.{length, drop}
-use lib.Seq.{length-take-le}
-use Rattle.terms.specs.Sizes.{in_range}
-use Rattle.terms.proofs.Ranges.{in_range_means}
-use Rattle.terms.specs.declared.Refusal.TheVariants.{BadSizes, BadStorage, BadState}
-use Rattle.acks.specs.State.{lending, table_of}
-use Rattle.acks.proofs.Gates.{Lent, lent_means}
-use Rattle.acknowledgment.specs.Calls.{is_lent, is_sound, incoming_of}
+use lib.ListN.{drop}
+use Rattle.std.proofs.lemmas.Result.{err_from_is_err_and}
+use Rattle.terms.specs.declared.Refusal.TheVariants.{BadState}
+use Rattle.acks.specs.State.{lending}
+use Rattle.acknowledgment.specs.Calls.{incoming_of}
 use Rattle.acknowledgment.proofs.Kept.{not_heard}
+use Rattle.acknowledgment.proofs.Opened.{incoming_shut, Past, past}
 use Rattle.acknowledgment.proofs.process_incoming.Goals as goal
-use Rattle.acknowledgment.proofs.process_incoming.Goals.{Else-not-in_range, Else-not-is_lent, Else-not-is_sound}
+use Rattle.acknowledgment.proofs.process_incoming.Goals.{In_ok-lent}
 
-within_range : (c : Else-not-in_range) → in_range c.args.sizes ≡ true
-within_range c = sym c.in_range.ensures ∙ c.if-not-in_range.false
+known : (c : In_ok-lent) → Past c.args.sizes c.args.received.now c.args.number.now c.args.records.now c.args.bytes.now
+known c = past c.args.sizes c.args.received.now c.args.number.now c.args.records.now c.args.bytes.now (sym c.lent.ensures ∙ c.in_ok-lent.was)
 
-long : (c : Else-not-is_lent) → is_lent c.args.sizes (lending c.args.state c.args.received.now c.args.number.now c.args.records.now c.args.bytes.now) ≡ true
-long c = sym c.is_lent.ensures ∙ c.if-not-is_lent.false
+pub returns-in_err-lent : goal.returns-in_err-lent
+returns-in_err-lent c =
+    let p = err_from_is_err_and c.from_residual.result c.from_residual.ensures.1 in
+    let s = (lending c.args.state c.args.received.now c.args.number.now c.args.records.now c.args.bytes.now) in
+    rw (p.1, p.2) (not_heard c.args.sizes s c.args.packet.0 c.args.acked.0 c.args.field _ (incoming_shut c.args.sizes s c.args.packet.0 c.args.acked.0 _ (sym c.lent.ensures ∙ c.in_err-lent.was)))
 
-lengths : (c : Else-not-is_lent) → Lent c.args.sizes c.args.received.now c.args.number.now c.args.records.now c.args.bytes.now
-lengths c = lent_means c.args.sizes c.args.received.now c.args.number.now c.args.records.now c.args.bytes.now (long c)
+pub sound-requires : goal.sound-requires
+sound-requires c =
+    let k = known (goal.at.sound-requires c).In_ok-lent in
+    (k.within_range, k.lengths.slots, k.lengths.numbers)
 
-sound : (c : Else-not-is_sound) → is_sound c.args.sizes (lending c.args.state c.args.received.now c.args.number.now c.args.records.now c.args.bytes.now) ≡ true
-sound c = sym c.is_sound.ensures ∙ c.if-not-is_sound.false
-
-whole : (c : Else-not-is_lent) → length (table_of c.args.sizes c.args.number.now) ≡ c.args.sizes.packets_in_flight
-whole c = length-take-le c.args.sizes.packets_in_flight c.args.number.now (lengths c).numbers
-
-pub returns-then-not-in_range : goal.returns-then-not-in_range
+pub returns-in_err-at_home : goal.returns-in_err-at_home
 unfolding incoming_of
-returns-then-not-in_range c =
-    let out : in_range c.args.sizes ≡ false = sym c.in_range.ensures ∙ c.if-not-in_range.true in
-    not_heard c.args.sizes (lending c.args.state c.args.received.now c.args.number.now c.args.records.now c.args.bytes.now) _ _ _ BadSizes (rw out)
-
-pub is_lent-requires : goal.is_lent-requires
-is_lent-requires c = within_range (goal.at.is_lent-requires c).Else-not-in_range
-
-pub returns-then-not-is_lent : goal.returns-then-not-is_lent
-unfolding incoming_of
-returns-then-not-is_lent c =
-    let short : is_lent c.args.sizes (lending c.args.state c.args.received.now c.args.number.now c.args.records.now c.args.bytes.now) ≡ false = sym c.is_lent.ensures ∙ c.if-not-is_lent.true in
-    not_heard c.args.sizes (lending c.args.state c.args.received.now c.args.number.now c.args.records.now c.args.bytes.now) _ _ _ BadStorage (rw (within_range (goal.at.returns-then-not-is_lent c).Else-not-in_range, short))
-
-pub is_home-at_home-requires : goal.is_home-at_home-requires
-is_home-at_home-requires c =
-    let l = lengths (goal.at.is_home-at_home-requires c).Else-not-is_lent in
-    (within_range (goal.at.is_home-at_home-requires c).Else-not-in_range, l.numbers)
-
-pub is_sound-requires : goal.is_sound-requires
-is_sound-requires c =
-    let l = lengths (goal.at.is_sound-requires c).Else-not-is_lent in
-    (within_range (goal.at.is_sound-requires c).Else-not-in_range, l.slots, l.numbers, c.is_home-at_home.ensures)
-
-pub returns-then-not-is_sound : goal.returns-then-not-is_sound
-unfolding incoming_of
-returns-then-not-is_sound c =
-    let bad : is_sound c.args.sizes (lending c.args.state c.args.received.now c.args.number.now c.args.records.now c.args.bytes.now) ≡ false = sym c.is_sound.ensures ∙ c.if-not-is_sound.true in
-    not_heard c.args.sizes (lending c.args.state c.args.received.now c.args.number.now c.args.records.now c.args.bytes.now) _ _ _ BadState (rw (within_range (goal.at.returns-then-not-is_sound c).Else-not-in_range, long (goal.at.returns-then-not-is_sound c).Else-not-is_lent, bad))
+returns-in_err-at_home c =
+    let k = known (goal.at.returns-in_err-at_home c).In_ok-lent in
+    let p = err_from_is_err_and c.from_residual-in_err-at_home.result c.from_residual-in_err-at_home.ensures.1 in
+    let j = c.in_err-at_home.ensures in
+    rw (p.1, p.2, j.1) (not_heard c.args.sizes (lending c.args.state c.args.received.now c.args.number.now c.args.records.now c.args.bytes.now) _ _ _ BadState (rw (k.within_range, k.long, j.0)))
 
 pub slice_bounds-incoming-end : goal.slice_bounds-incoming-end
-slice_bounds-incoming-end c = (lengths (goal.at.slice_bounds-incoming-end c).Else-not-is_lent).numbers
+slice_bounds-incoming-end c = (known (goal.at.slice_bounds-incoming-end c).In_ok-lent).lengths.numbers
 
 pub slice_bounds-incoming-end-2 : goal.slice_bounds-incoming-end-2
-slice_bounds-incoming-end-2 c = omega (arith, whole (goal.at.slice_bounds-incoming-end-2 c).Else-not-is_lent)
+slice_bounds-incoming-end-2 c = omega (arith, (known (goal.at.slice_bounds-incoming-end-2 c).In_ok-lent).whole)
 
 pub incoming-requires : goal.incoming-requires
-incoming-requires c = ((lengths (goal.at.incoming-requires c).Else-not-is_lent).slots, λ e. (omega (arith, whole (goal.at.incoming-requires c).Else-not-is_lent, (in_range_means _ (within_range (goal.at.incoming-requires c).Else-not-in_range)).n), (c.is_home-at_home.ensures e).home))
+incoming-requires c =
+    let k = known (goal.at.incoming-requires c).In_ok-lent in
+    (k.lengths.slots, λ e. (omega (arith, k.whole, k.sizes.n), (c.in_ok-at_home.ensures.1 e).home))
 
 pub returns : goal.returns
 unfolding incoming_of
 returns c =
     let done = c.incoming.ensures in
     let n = c.args.sizes.packets_in_flight in
+    let k = known (goal.at.returns c).In_ok-lent in
+    let sound = c.in_ok-at_home.ensures.0 in
     record {
-      answer_is = rw (within_range (goal.at.returns c).Else-not-in_range, long (goal.at.returns c).Else-not-is_lent, sound (goal.at.returns c).Else-not-is_sound, done.value);
-      received_is = rw (within_range (goal.at.returns c).Else-not-in_range, long (goal.at.returns c).Else-not-is_lent, sound (goal.at.returns c).Else-not-is_sound) done.received_after;
-      number_is = rw (within_range (goal.at.returns c).Else-not-in_range, long (goal.at.returns c).Else-not-is_lent, sound (goal.at.returns c).Else-not-is_sound) (ap (λ (l : List ℕ). l ++ drop n c.args.number.now) done.number_after);
+      answer_is = rw (k.within_range, k.long, sound, done.value);
+      received_is = rw (k.within_range, k.long, sound) done.received_after;
+      number_is = rw (k.within_range, k.long, sound) (ap (λ (l : List ℕ). l ++ drop n c.args.number.now) done.number_after);
     }

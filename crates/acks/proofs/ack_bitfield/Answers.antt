@@ -1,13 +1,13 @@
 -- A rung of the ladder for each refusal, then the field.
 use mathlib.Core.Path.{◌≡◌, sym, ◌∙◌}
 use mathlib.Core.Bool.{true, false, not}
+use Rattle.std.specs.Prelude.{Ok, Err}
 use Rattle.keys.specs.Keys.{twice}
 use Rattle.terms.specs.Sizes.{in_range}
 use borrow.Author.Tests.{le-leb, lt-leb}
 use Rattle.received.specs.Record.{slots_of}
 use Rattle.received.specs.Field.{field_of}
 use Rattle.acks.specs.Questions.{told_of}
-use Rattle.acks.specs.declared.AckBitfield.TheVariants.{Field, Refused as NotTold}
 use Rattle.acks.proofs.Gates.{unsound}
 use Rattle.acks.proofs.ack_bitfield.Goals as goal
 use Rattle.acks.proofs.ack_bitfield.Goals.{After-ack_bitfield, After-is_record_sound, Else-not-in_range}
@@ -35,7 +35,7 @@ returns-then-received-lt-SLOTS c = rw (within_range (goal.at.returns-then-receiv
 
 pub returns-then-not-is_record_sound : goal.returns-then-not-is_record_sound
 unfolding told_of
-returns-then-not-is_record_sound c = rw (le-leb _ _ c.if-received-lt-SLOTS.false, sym (judged (goal.at.returns-then-not-is_record_sound c).After-is_record_sound) ∙ c.if-not-is_record_sound.true) (sym (unsound _ NotTold (Field 0) (within_range (goal.at.returns-then-not-is_record_sound c).Else-not-in_range)))
+returns-then-not-is_record_sound c = rw (le-leb _ _ c.if-received-lt-SLOTS.false, sym (judged (goal.at.returns-then-not-is_record_sound c).After-is_record_sound) ∙ c.if-not-is_record_sound.true) (sym (unsound _ Err (Ok 0) (within_range (goal.at.returns-then-not-is_record_sound c).Else-not-in_range)))
 
 pub returns : goal.returns
 unfolding told_of

@@ -5,6 +5,7 @@ use Prim.Native.Nat.{◌≤◌}
 use native.Mathlib.Omega.{arith}
 use lib.ListN.{length}
 use lib.Seq.{length-take-le}
+use Rattle.std.specs.Prelude.{Ok, Err}
 use Rattle.terms.specs.Sizes.{in_range}
 use Rattle.terms.proofs.Ranges.{in_range_means}
 use Rattle.flight.specs.Entry.{numbers_in}
@@ -12,7 +13,6 @@ use Rattle.flight.specs.Places.{count_of}
 use Rattle.acks.specs.State.{table_of}
 use Rattle.acks.specs.Gate.{flight_lent}
 use Rattle.acks.specs.Questions.{counted_of}
-use Rattle.acks.specs.declared.InFlight.TheVariants.{Packets, Refused as NotCounted}
 use Rattle.acks.proofs.Gates.{flight_means, unsound}
 use Rattle.acks.proofs.packets_in_flight.Goals as goal
 use Rattle.acks.proofs.packets_in_flight.Goals.{After-count, Else-not-in_range, Else-not-is_flight_lent}
@@ -58,7 +58,7 @@ pub returns-then-not-is_sound : goal.returns-then-not-is_sound
 unfolding counted_of
 returns-then-not-is_sound c =
     let bad = sym c.is_sound.ensures ∙ c.if-not-is_sound.true in
-    rw (long (goal.at.returns-then-not-is_sound c).Else-not-is_flight_lent, bad) (sym (unsound _ NotCounted (Packets 0) (within_range (goal.at.returns-then-not-is_sound c).Else-not-in_range)))
+    rw (long (goal.at.returns-then-not-is_sound c).Else-not-is_flight_lent, bad) (sym (unsound _ Err (Ok 0) (within_range (goal.at.returns-then-not-is_sound c).Else-not-in_range)))
 
 pub returns : goal.returns
 unfolding counted_of

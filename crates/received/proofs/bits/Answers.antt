@@ -11,21 +11,19 @@ said : (c : After-exists) → heard c.args.newest c.args.slots.now c.loop-k.k �
 said c = sym (c.exists.ensures ∙ ap (holds c.args.slots.now) c.distance.ensures)
 
 pub loop-k-init : goal.loop-k-init
-loop-k-init c = (sym (bits_zero _), omega arith)
+loop-k-init c = sym (bits_zero _)
 
 pub loop-k-preserved : goal.loop-k-preserved
 loop-k-preserved c =
     let l = c.loop-k in
     let p = heard c.args.newest c.args.slots.now in
-    let s = said (goal.at.loop-k-preserved c).After-exists in (
-      elim c.if-exists.branch [
-        | then-exists w ↦ w.field-is ∙ bits_taken p l.k l.field l.invariant.0 (omega arith) (s ∙ w.if-exists.true)
-        | else-exists w ↦ w.field-is ∙ bits_left p l.k l.field l.invariant.0 (s ∙ w.if-exists.false)
-      ],
-      omega arith,
-    )
+    let s = said (goal.at.loop-k-preserved c).After-exists in
+    elim c.if-exists.branch [
+      | then-exists w ↦ w.field-is ∙ bits_taken p l.k l.field l.invariant (omega arith) (s ∙ w.if-exists.true)
+      | else-exists w ↦ w.field-is ∙ bits_left p l.k l.field l.invariant (s ∙ w.if-exists.false)
+    ]
 
 pub returns : goal.returns
 returns c =
     let e : c.loop-k.k ≡ 32 = omega arith in
-    c.loop-k.invariant.0 ∙ ap (bits_below (heard c.args.newest c.args.slots.now)) e
+    c.loop-k.invariant ∙ ap (bits_below (heard c.args.newest c.args.slots.now)) e

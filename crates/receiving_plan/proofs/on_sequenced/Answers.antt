@@ -13,11 +13,11 @@ pub returns-then-at-eq4 : goal.returns-then-at-eq4
 unfolding sequenced_plan
 returns-then-at-eq4 c = rw (eq-eqb (place_of c.args.sequenced.known c.args.item.stream) 4 (sym c.place-at.ensures ∙ c.if-at-eq4.true))
 
-pub at-stream-requires : goal.at-stream-requires
-at-stream-requires c =
+pub at-requires : goal.at-requires
+at-requires c =
     let s = c in
-    rw c.place-at.ensures (place_under s.args.sequenced.known s.args.item.stream s.requires (other (goal.at.at-stream-requires c).Else-at-eq4))
+    rw c.place-at.ensures (place_under s.args.sequenced.known s.args.item.stream s.requires (other (goal.at.at-requires c).Else-at-eq4))
 
 pub returns : goal.returns
 unfolding sequenced_plan
-returns c = rw (ne_eqb (place_of c.args.sequenced.known c.args.item.stream) 4 (other (goal.at.returns c).Else-at-eq4), c.arrange-after.ensures, c.at-stream.ensures, c.place-at.ensures)
+returns c = rw (ne_eqb (place_of c.args.sequenced.known c.args.item.stream) 4 (other (goal.at.returns c).Else-at-eq4), c.arrange-after.ensures, c.at.ensures, c.place-at.ensures)

@@ -14,11 +14,10 @@ returns-then-not-sound c = rw (← c.sound.ensures, c.if-not-sound.true)
 pub loop-j-init : goal.loop-j-init
 loop-j-init c =
     let a = c.args in
-    let ok : sound_ids c.args.streams.known ≡ true = sym c.sound.ensures ∙ c.if-not-sound.false in
-    (omega arith, ids_four a.streams.known ok, each_zero a.f a.streams a.index.now a.lengths.now)
+    each_zero a.f a.streams a.index.now a.lengths.now
 
 pub sound_at-requires : goal.sound_at-requires
-sound_at-requires c = (c.requires.0, c.requires.1, omega (arith, c.loop-j.invariant.1))
+sound_at-requires c = (c.requires.0, c.requires.1, omega (arith, ids_four c.args.streams.known (sym c.sound.ensures ∙ c.if-not-sound.false), c.loop-j-test.true))
 
 pub returns-then-not-sound_at : goal.returns-then-not-sound_at
 unfolding sound_all
@@ -27,14 +26,14 @@ returns-then-not-sound_at c =
     let l = c.loop-j in
     let ok : sound_ids c.args.streams.known ≡ true = sym c.sound.ensures ∙ c.if-not-sound.false in
     let t = c.sound_at in
-    rw (ok, each_not a.f a.streams a.index.now a.lengths.now l.j a.streams.known.made (omega arith) l.invariant.2 (sym t.ensures ∙ c.if-not-sound_at.true))
+    rw (ok, each_not a.f a.streams a.index.now a.lengths.now l.j a.streams.known.made (omega arith) l.invariant (sym t.ensures ∙ c.if-not-sound_at.true))
 
 pub loop-j-preserved : goal.loop-j-preserved
 loop-j-preserved c =
     let a = c.args in
     let l = c.loop-j in
     let t = c.sound_at in
-    (omega arith, l.invariant.1, each_more a.f a.streams a.index.now a.lengths.now l.j l.invariant.2 (sym t.ensures ∙ c.if-not-sound_at.false))
+    each_more a.f a.streams a.index.now a.lengths.now l.j l.invariant (sym t.ensures ∙ c.if-not-sound_at.false)
 
 pub returns : goal.returns
 unfolding sound_all
@@ -43,4 +42,4 @@ returns c =
     let l = c.loop-j in
     let ok : sound_ids c.args.streams.known ≡ true = sym c.sound.ensures ∙ c.if-not-sound.false in
     let past : l.j ≡ a.streams.known.made = omega arith in
-    rw ok (sym (ap (λ (n : ℕ). each_sound a.f a.streams a.index.now a.lengths.now n) (sym past) ∙ l.invariant.2))
+    rw ok (sym (ap (λ (n : ℕ). each_sound a.f a.streams a.index.now a.lengths.now n) (sym past) ∙ l.invariant))

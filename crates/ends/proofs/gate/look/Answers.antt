@@ -1,19 +1,16 @@
 -- 1, 2 and 13 rung by rung; what is lent is long enough for 13 to be tried. What is known of the packets in flight and of
 -- the received record is what `is_home` and `is_lapped` saw.
-use mathlib.Core.Path.{◌≡◌, sym, ap, ◌∙◌}
-use mathlib.Core.Bool.{Bool, true}
+use mathlib.Core.Path.{◌≡◌, sym, ◌∙◌}
+use mathlib.Core.Bool.{true}
 use mathlib.Core.List.{List}
 use Prim.Native.Nat.{ℕ, ◌≤◌}
 use native.Mathlib.Omega.{arith}
 use lib.ListN.{length, take}
 use lib.Seq.{length-take-le}
-use Rattle.laws.proofs.Cases.{both}
 use Rattle.terms.specs.Sizes.{in_range}
-use Rattle.terms.specs.declared.Gate.{Gate}
 use Rattle.terms.proofs.Ranges.{in_range_means}
 use Rattle.ends.specs.State.{State, lending}
 use Rattle.ends.specs.Gate.{is_lent}
-use Rattle.ends.specs.declared.gate.Checked.{Checked}
 use Rattle.ends.proofs.Rungs.{no_counters, RecordSound, RestSound, rest_unsound, record_unsound, both_sound}
 use Rattle.ends.proofs.Opened.{stored_means, gate_sizes, gate_storage, gate_state, opens}
 use Rattle.ends.proofs.gate.look.Goals as goal
@@ -45,20 +42,10 @@ rest c = sym c.is_sound.ensures
 record_is : (c : After-is_record_sound) → RecordSound c.args.sizes ((lending c.args.end c.args.received.now c.args.number.now c.args.records.now c.args.payloads.now c.args.slots.now c.args.entry.now c.args.header.now c.args.joined.now c.args.index.now c.args.lengths.now c.args.held.now)) ≡ c.is_record_sound.result
 record_is c = sym c.is_record_sound.ensures
 
--- a gate that is shut knows nothing
-gate_of_lem : (r : Checked) (g : Gate) (h t : Bool) → r ≡ record { gate = g; home = h; lapped = t } → r.gate ≡ g
-gate_of_lem r g h t e = ap (λ (x : Checked). x.gate) e
-
-home_of : (r : Checked) (g : Gate) (h t : Bool) → r ≡ record { gate = g; home = h; lapped = t } → r.home ≡ h
-home_of r g h t e = ap (λ (x : Checked). x.home) e
-
-lapped_of : (r : Checked) (g : Gate) (h t : Bool) → r ≡ record { gate = g; home = h; lapped = t } → r.lapped ≡ t
-lapped_of r g h t e = ap (λ (x : Checked). x.lapped) e
-
 pub returns-then-not-in_range : goal.returns-then-not-in_range
 returns-then-not-in_range c =
     let s = (goal.at.returns-then-not-in_range c).Start in
-    let e = c.shut.ensures in record { gate_value = gate_of_lem _ _ _ _ e ∙ sym (gate_sizes s.args.sizes (whole s) (out s) (sym c.in_range.ensures ∙ c.if-not-in_range.true)); known_home = λ h. both h (home_of _ _ _ _ e); known_lapped = λ h. both h (lapped_of _ _ _ _ e) }
+    record { gate_value = sym (gate_sizes s.args.sizes (whole s) (out s) (sym c.in_range.ensures ∙ c.if-not-in_range.true)); known_home = tt; known_lapped = tt }
 
 pub is_lent-requires : goal.is_lent-requires
 is_lent-requires c = ranged (goal.at.is_lent-requires c).Else-not-in_range
@@ -66,7 +53,7 @@ is_lent-requires c = ranged (goal.at.is_lent-requires c).Else-not-in_range
 pub returns-then-not-is_lent : goal.returns-then-not-is_lent
 returns-then-not-is_lent c =
     let s = (goal.at.returns-then-not-is_lent c).Start in
-    let e = c.shut-then-not-is_lent.ensures in record { gate_value = gate_of_lem _ _ _ _ e ∙ sym (gate_storage s.args.sizes (whole s) (out s) (ranged (goal.at.returns-then-not-is_lent c).Else-not-in_range) (no_counters s.args.sizes (whole s) (out s) ∙ sym c.is_lent.ensures ∙ c.if-not-is_lent.true)); known_home = λ h. both h (home_of _ _ _ _ e); known_lapped = λ h. both h (lapped_of _ _ _ _ e) }
+    record { gate_value = sym (gate_storage s.args.sizes (whole s) (out s) (ranged (goal.at.returns-then-not-is_lent c).Else-not-in_range) (no_counters s.args.sizes (whole s) (out s) ∙ sym c.is_lent.ensures ∙ c.if-not-is_lent.true)); known_home = tt; known_lapped = tt }
 
 pub is_home-home-requires : goal.is_home-home-requires
 is_home-home-requires c =
@@ -83,8 +70,7 @@ is_sound-requires c =
 pub returns-then-not-is_sound : goal.returns-then-not-is_sound
 returns-then-not-is_sound c =
     let s = (goal.at.returns-then-not-is_sound c).Start in
-    let e = c.shut-then-not-is_sound.ensures in
-    let r = (goal.at.returns-then-not-is_sound c).After-is_sound in record { gate_value = gate_of_lem _ _ _ _ e ∙ sym (gate_state s.args.sizes (whole s) (out s) (ranged (goal.at.returns-then-not-is_sound c).Else-not-in_range) (stored (goal.at.returns-then-not-is_sound c).Else-not-is_lent) (rest_unsound s.args.sizes (whole s) (rest r ∙ c.if-not-is_sound.true))); known_home = λ h. both h (home_of _ _ _ _ e); known_lapped = λ h. both h (lapped_of _ _ _ _ e) }
+    let r = (goal.at.returns-then-not-is_sound c).After-is_sound in record { gate_value = sym (gate_state s.args.sizes (whole s) (out s) (ranged (goal.at.returns-then-not-is_sound c).Else-not-in_range) (stored (goal.at.returns-then-not-is_sound c).Else-not-is_lent) (rest_unsound s.args.sizes (whole s) (rest r ∙ c.if-not-is_sound.true))); known_home = tt; known_lapped = tt }
 
 pub is_lapped-lapped-requires : goal.is_lapped-lapped-requires
 is_lapped-lapped-requires c =
@@ -99,12 +85,10 @@ is_record_sound-requires c =
 pub returns-then-not-is_record_sound : goal.returns-then-not-is_record_sound
 returns-then-not-is_record_sound c =
     let s = (goal.at.returns-then-not-is_record_sound c).Start in
-    let e = c.shut-then-not-is_record_sound.ensures in
-    let r = (goal.at.returns-then-not-is_record_sound c).After-is_record_sound in record { gate_value = gate_of_lem _ _ _ _ e ∙ sym (gate_state s.args.sizes (whole s) (out s) (ranged (goal.at.returns-then-not-is_record_sound c).Else-not-in_range) (stored (goal.at.returns-then-not-is_record_sound c).Else-not-is_lent) (record_unsound s.args.sizes (whole s) (record_is r ∙ c.if-not-is_record_sound.true))); known_home = λ h. both h (home_of _ _ _ _ e); known_lapped = λ h. both h (lapped_of _ _ _ _ e) }
+    let r = (goal.at.returns-then-not-is_record_sound c).After-is_record_sound in record { gate_value = sym (gate_state s.args.sizes (whole s) (out s) (ranged (goal.at.returns-then-not-is_record_sound c).Else-not-in_range) (stored (goal.at.returns-then-not-is_record_sound c).Else-not-is_lent) (record_unsound s.args.sizes (whole s) (record_is r ∙ c.if-not-is_record_sound.true))); known_home = tt; known_lapped = tt }
 
 pub returns : goal.returns
 returns c =
     let s = (goal.at.returns c).Start in
-    let e = c.open.ensures in
     let r = (goal.at.returns c).After-is_sound in
-    let t = (goal.at.returns c).After-is_record_sound in record { gate_value = gate_of_lem _ _ _ _ e ∙ sym (opens s.args.sizes (whole s) (out s) (ranged (goal.at.returns c).Else-not-in_range) (stored (goal.at.returns c).Else-not-is_lent) (both_sound s.args.sizes (whole s) (record_is t ∙ c.if-not-is_record_sound.false) (rest r ∙ c.if-not-is_sound.false))); known_home = λ h. (some (goal.at.returns c).Else-not-is_lent, (c.is_home-home.ensures (sym (home_of _ _ _ _ e) ∙ h)).home); known_lapped = λ h. c.is_lapped-lapped.ensures.known_lapped (sym (lapped_of _ _ _ _ e) ∙ h) }
+    let t = (goal.at.returns c).After-is_record_sound in record { gate_value = sym (opens s.args.sizes (whole s) (out s) (ranged (goal.at.returns c).Else-not-in_range) (stored (goal.at.returns c).Else-not-is_lent) (both_sound s.args.sizes (whole s) (record_is t ∙ c.if-not-is_record_sound.false) (rest r ∙ c.if-not-is_sound.false))); known_home = λ h. (some (goal.at.returns c).Else-not-is_lent, (c.is_home-home.ensures h).home); known_lapped = c.is_lapped-lapped.ensures.known_lapped }

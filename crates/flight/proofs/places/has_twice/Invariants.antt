@@ -1,9 +1,6 @@
-use Rattle.std.proofs.Common.{◌≡◌, ℕ, ◌-◌, ◌<◌, ◌≤◌, length, get_or}
+use Rattle.std.proofs.Common.{◌≡◌, ℕ, ◌<◌, length, get_or}
 use Rattle.flight.specs.Entry.{number_in}
 use Rattle.flight.proofs.places.has_twice.Given as goal
 
 abbrev pub invariant-loop-i : goal.invariant-loop-i
-invariant-loop-i l = (length l.keys ≡ 256) × (l.i ≤ length l.number) × ((j : ℕ) → j < l.i → get_or l.keys j 0 ≡ number_in (get_or l.number j 0))
-
-abbrev pub decreases-loop-i : goal.decreases-loop-i
-decreases-loop-i l = length l.number - l.i
+invariant-loop-i l = (length l.keys ≡ 256) × ((j : ℕ) → j < l.i → get_or l.keys j 0 ≡ number_in (get_or l.number j 0))

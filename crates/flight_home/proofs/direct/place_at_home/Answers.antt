@@ -1,15 +1,7 @@
 -- Each way out is a law of a table at home.
 use borrow.Author.Rules.{rules}
-use native.Mathlib.Nat.{mod-lt}
-use lib.ListN.{length}
 use Rattle.flight_home.proofs.Homes.{place_here, place_free}
 use Rattle.flight_home.proofs.direct.place_at_home.Goals as goal
-
-pub offset_bounds-number-own : goal.offset_bounds-number-own
-offset_bounds-number-own c = let h = mod-lt c.args.packet.0 {m = length c.args.number.now} c.requires.0 in search rules
-
-pub bounds-number-own : goal.bounds-number-own
-bounds-number-own c = mod-lt c.args.packet.0 {m = length c.args.number.now} c.requires.0
 
 pub returns-then-word-packet : goal.returns-then-word-packet
 returns-then-word-packet c = place_here c.args.packet.0 c.args.number.now (search rules) c.requires.0 c.requires.1 c.if-word-packet.true

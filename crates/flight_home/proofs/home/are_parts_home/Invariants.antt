@@ -1,11 +1,6 @@
-use mathlib.Core.Path.{◌≡◌}
-use Prim.Native.Nat.{ℕ, ◌-◌, ◌%◌, ◌≤◌, ◌<◌}
-use lib.ListN.{length}
+use Prim.Native.Nat.{ℕ, ◌*◌, ◌<◌}
 use Rattle.flight_home.specs.AtHome.{PlaceHome}
 use Rattle.flight_home.proofs.home.are_parts_home.Given as goal
 
-abbrev pub invariant-loop-at : goal.invariant-loop-at
-invariant-loop-at l = (l.at ≤ length l.number) × (l.at % 64 ≡ 0) × ((j : ℕ) → j < l.at → PlaceHome l.room l.lap l.last l.number j)
-
-abbrev pub decreases-loop-at : goal.decreases-loop-at
-decreases-loop-at l = length l.number - l.at
+abbrev pub invariant-loop-part : goal.invariant-loop-part
+invariant-loop-part l = (j : ℕ) → j < l.part * 64 → PlaceHome l.room l.lap l.last l.number j

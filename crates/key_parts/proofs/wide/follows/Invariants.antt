@@ -1,9 +1,6 @@
-use Rattle.std.proofs.Common.{◌≡◌, ℕ, ◌+◌, ◌-◌, ◌*◌, ◌<◌, ◌≤◌, get_or}
+use Rattle.std.proofs.Common.{ℕ, ◌+◌, ◌<◌, ◌≤◌, get_or}
 use Rattle.key_parts.specs.Words.{no_packet, Word}
 use Rattle.key_parts.proofs.wide.follows.Given as goal
 
 abbrev pub invariant-loop-k : goal.invariant-loop-k
-invariant-loop-k l = (l.k ≤ 64) × (l.place ≡ l.k * 32768) × ((j : ℕ) → j < l.k → no_packet ≤ l.all → Word l.room (l.first + j) (l.first + j) (get_or l.words (l.at + j) 0))
-
-abbrev pub decreases-loop-k : goal.decreases-loop-k
-decreases-loop-k l = 64 - l.k
+invariant-loop-k l = (j : ℕ) → j < l.k → no_packet ≤ l.all → Word l.room (l.first + j) (l.first + j) (get_or l.words (l.at + j) 0)

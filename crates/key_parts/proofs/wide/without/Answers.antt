@@ -34,7 +34,7 @@ returns c =
     λ h k.
     let low = xor_lt 31 a.word a.place k (omega arith) in
     let differ = xor_lt 31 (bit_xor a.word a.place) (a.first * 32768) low (omega arith) in
-    let few : bit_xor (bit_xor a.word a.place) (a.first * 32768) ≤ a.room = omega (arith, differ, c.wrapping_sub_u32.ensures.value, h) in
+    let few : bit_xor (bit_xor a.word a.place) (a.first * 32768) ≤ a.room = omega (arith, differ, h) in
     let none : bit_xor (bit_xor (a.word / 32768) (a.place / 32768)) a.first ≡ 0 = omega (arith, number_of a.word a.place a.first, few) in
     let number = stands (a.word / 32768) a.first (a.place / 32768) p.1 (omega arith) (xor_none _ _ none) in
     (inl number, omega (arith, length_of_lem a.word a.place a.first p.3, few))

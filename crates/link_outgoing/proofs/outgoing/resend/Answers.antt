@@ -1,40 +1,42 @@
 -- A shut gate and an unknown ordering leave everything (`not_sent`); an open gate is all that the crate below requires.
-use mathlib.Core.Path.{◌≡◌, sym, ap, ◌∙◌}
-use Rattle.terms.specs.declared.Gate.TheVariants.{Open, Shut}
+use mathlib.Core.Path.{sym, ap, ◌∙◌}
 use Rattle.ends.specs.State.{State, lending}
-use Rattle.ends.specs.Gate.{gate_of}
 use Rattle.terms.specs.declared.Refusal.TheVariants.{BadHeader}
 use Rattle.sending.specs.Send.{transmitted_of}
+use lib.Dec.{leb}
+use Rattle.packet_table.specs.Table.{ordering_of, ordering_read}
+use Rattle.packet_table.proofs.Known.{known, refused}
 use Rattle.datagrams.specs.declared.Item.{Item}
-use Rattle.link_outgoing.specs.Calls.{resend_of}
 use Rattle.link_outgoing.proofs.Ways.{not_sent, resend_shut, resend_unknown, resend_open}
 use Rattle.link_outgoing.proofs.outgoing.resend.Goals as goal
-use Rattle.link_outgoing.proofs.outgoing.resend.Goals.{In_default, Start}
+use Rattle.link_outgoing.proofs.outgoing.resend.Goals.{Start}
 
 abbrev whole : Start → State
 whole c = lending c.args.end c.args.received.now c.args.number.now c.args.records.now c.args.payloads.now c.args.slots.now c.args.entry.now c.args.header.now c.args.joined.now c.args.index.now c.args.lengths.now c.args.held.now
 
-is_open : (c : In_default) → gate_of c.args.sizes ((lending c.args.end c.args.received.now c.args.number.now c.args.records.now c.args.payloads.now c.args.slots.now c.args.entry.now c.args.header.now c.args.joined.now c.args.index.now c.args.lengths.now c.args.held.now)) c.args.output.now ≡ Open
-is_open c = sym c.look-checked.ensures.gate_value ∙ c.in_default.is
+pub returns-in-Err : goal.returns-in-Err
+returns-in-Err c =
+    let s = (goal.at.returns-in-Err c).Start in
+    rw c.refused.ensures (not_sent _ c.in-Err.why (whole s) s.args.output.now (resend_shut s.args.sizes (whole s) s.args.output.now c.in-Err.why s.args.sent s.args.payload.now (sym c.in-Err.ensures.gate_value)))
 
-pub returns-in-Shut : goal.returns-in-Shut
-returns-in-Shut c =
-    let s = (goal.at.returns-in-Shut c).Start in
-    let why = c.in-Shut.why in
-    let e : c.look-checked.result.gate ≡ Shut why = c.in-Shut.is in
-    let g = sym c.look-checked.ensures.gate_value ∙ e in
-    rw c.refused.ensures (not_sent (resend_of s.args.sizes (whole s) s.args.sent s.args.payload.now s.args.output.now) why (whole s) s.args.output.now (resend_shut s.args.sizes (whole s) s.args.output.now why s.args.sent s.args.payload.now g))
+pub returns-in-Err-try_from : goal.returns-in-Err-try_from
+unfolding ordering_read
+returns-in-Err-try_from c =
+    let s = (goal.at.returns-in-Err-try_from c).Start in
+    let w = refused (leb 3 s.args.sent.ordering) (ordering_of s.args.sent.ordering) c.in-Err-try_from.why c.in-Err-try_from.ensures in
+    rw (c.refused-in-Err-try_from.ensures, w.1) (not_sent _ BadHeader (whole s) s.args.output.now (resend_unknown s.args.sizes (whole s) s.args.output.now s.args.sent s.args.payload.now (sym c.in-Ok.ensures.gate_value) w.0))
 
-pub returns-then-sent-ge3 : goal.returns-then-sent-ge3
-returns-then-sent-ge3 c =
-    let s = (goal.at.returns-then-sent-ge3 c).Start in
-    rw c.refused-then-sent-ge3.ensures (not_sent (resend_of s.args.sizes (whole s) s.args.sent s.args.payload.now s.args.output.now) BadHeader (whole s) s.args.output.now (resend_unknown s.args.sizes (whole s) s.args.output.now s.args.sent s.args.payload.now (is_open (goal.at.returns-then-sent-ge3 c).In_default) c.if-sent-ge3.true))
+pub item_again-requires : goal.item_again-requires
+unfolding ordering_read
+item_again-requires c = (known (leb 3 c.args.sent.ordering) (ordering_of c.args.sent.ordering) c.in-Ok-try_from.ordering c.in-Ok-try_from.ensures).1
 
 pub transmit-requires : goal.transmit-requires
-transmit-requires c = (is_open (goal.at.transmit-requires c).In_default, c.look-checked.ensures.known_home, c.look-checked.ensures.known_lapped)
+transmit-requires c = (sym c.in-Ok.ensures.gate_value, c.in-Ok.ensures.known_home, c.in-Ok.ensures.known_lapped)
 
 pub returns : goal.returns
+unfolding ordering_read
 returns c =
     let s = (goal.at.returns c).Start in
-    let same = resend_open s.args.sizes (whole s) s.args.output.now s.args.sent s.args.payload.now (is_open (goal.at.returns c).In_default) c.if-sent-ge3.false ∙ ap (λ (i : Item). transmitted_of s.args.sizes (whole s) i s.args.payload.now s.args.output.now) (sym c.item_again.ensures) in
+    let w = known (leb 3 s.args.sent.ordering) (ordering_of s.args.sent.ordering) c.in-Ok-try_from.ordering c.in-Ok-try_from.ensures in
+    let same = resend_open s.args.sizes (whole s) s.args.output.now s.args.sent s.args.payload.now (sym c.in-Ok.ensures.gate_value) w.0 ∙ ap (λ (i : Item). transmitted_of s.args.sizes (whole s) i s.args.payload.now s.args.output.now) (sym c.item_again.ensures) in
     rw same c.transmit.ensures

@@ -4,7 +4,7 @@ use Prim.Native.Nat.{◌+◌, ◌≤◌}
 use lib.ListN.{length}
 use native.Mathlib.Omega.{arith}
 use borrow.Author.Tests.{le-ltb}
-use Rattle.packet.specs.declared.Built.TheVariants.{Datagram}
+use Rattle.std.specs.Prelude.{Ok}
 use Rattle.packet.specs.Build.{build_of}
 use Rattle.packet_table.proofs.Lengths.{datagram_length}
 use Rattle.packet.proofs.builder.build.Goals as goal
@@ -17,7 +17,7 @@ returns c =
     let w = c.write.ensures in
     let all = datagram_length a.version a.headers a.payload.now in
     let long : place.result + length a.payload.now ≤ length a.output.now = omega arith in
-    let answer : Datagram c.write.result ≡ build_of a.headers a.payload.now a.output.now = rw (
+    let answer : Ok c.write.result ≡ build_of a.headers a.payload.now a.output.now = rw (
       w.length_is ∙ all,
       ← c.headers_after-following.ensures,
       ← c.is_misfit.ensures,

@@ -16,12 +16,12 @@ returns c =
     let h = c.args.headers in
     let out : List ℕ = c.args.output.now in
     let id : ℕ = h.fragment.id in
-    let first : c.write_fragment_header-after_fragment.result.at ≡ acked_at f = rw c.has_fragment-has_fragment.ensures at c.write_fragment_header-after_fragment.ensures.0 in
-    let second : c.write_acknowledge_header-after_acked.result.at ≡ arranging_at f id = rw (first, c.has_acked-has_acked.ensures) at c.write_acknowledge_header-after_acked.ensures.0 in
+    let first : c.write_fragment_header-acked_at.result ≡ acked_at f = rw c.has_fragment-has_fragment.ensures at c.write_fragment_header-acked_at.ensures.0 in
+    let second : c.write_acknowledge_header-arranging_at.result ≡ arranging_at f id = rw (first, c.has_acked-has_acked.ensures) at c.write_acknowledge_header-arranging_at.ensures.0 in
     rw (
       c.write_arranging_header.ensures.1,
-      c.write_acknowledge_header-after_acked.ensures.1,
-      c.write_fragment_header-after_fragment.ensures.1,
+      c.write_acknowledge_header-arranging_at.ensures.1,
+      c.write_fragment_header-acked_at.ensures.1,
       second,
       first,
       c.has_fragment-has_fragment.ensures,

@@ -3,6 +3,8 @@ use Prim.Native.Nat.{◌<◌, ◌≤◌}
 use lib.ListN.{length}
 use native.Mathlib.Omega.{arith}
 use borrow.Author.Tests.{lt-ltb, le-ltb}
+use Rattle.std.proofs.lemmas.Result.{err_from_is_err_and}
+use Rattle.packet_table.proofs.Known.{known, refused}
 use Rattle.packet.specs.Read.{read_of}
 use Rattle.packet.proofs.reader.read_headers.Goals as goal
 use Rattle.packet.proofs.reader.read_headers.Goals.{Else-datagram-lt-STANDARD_HEADER_SIZE}
@@ -17,22 +19,22 @@ returns-then-datagram-lt-STANDARD_HEADER_SIZE c =
     let short : length c.args.datagram.now < 5 = omega arith in
     rw (lt-ltb _ _ short)
 
-pub returns-then-is_unknown : goal.returns-then-is_unknown
+pub returns-in_err-standard : goal.returns-in_err-standard
 unfolding read_of
-returns-then-is_unknown c =
-    let u = c.is_unknown in
-    rw (le-ltb _ _ (whole (goal.at.returns-then-is_unknown c).Else-datagram-lt-STANDARD_HEADER_SIZE), ← u.ensures, c.if-is_unknown.true)
+returns-in_err-standard c =
+    let p = err_from_is_err_and c.from_residual.result c.from_residual.ensures.1 in
+    let u = refused _ _ _ c.in_err-standard.ensures in
+    rw (p.1, p.2, u.1, le-ltb _ _ (whole (goal.at.returns-in_err-standard c).Else-datagram-lt-STANDARD_HEADER_SIZE), u.0)
 
 pub returns-then-is_misfit : goal.returns-then-is_misfit
 unfolding read_of
 returns-then-is_misfit c =
-    let u = c.is_unknown in
+    let u = known _ _ _ c.in_ok-standard.ensures in
     let m = c.is_misfit in
     rw (
       le-ltb _ _ (whole (goal.at.returns-then-is_misfit c).Else-datagram-lt-STANDARD_HEADER_SIZE),
-      ← u.ensures,
-      c.if-is_unknown.false,
-      ← c.read_standard_header-standard.ensures,
+      u.0,
+      ← u.1,
       ← c.headers_after-following.ensures,
       ← m.ensures,
       c.if-is_misfit.true,
@@ -41,13 +43,12 @@ returns-then-is_misfit c =
 pub returns : goal.returns
 unfolding read_of
 returns c =
-    let u = c.is_unknown in
+    let u = known _ _ _ c.in_ok-standard.ensures in
     let m = c.is_misfit in
     rw (
       le-ltb _ _ (whole (goal.at.returns c).Else-datagram-lt-STANDARD_HEADER_SIZE),
-      ← u.ensures,
-      c.if-is_unknown.false,
-      ← c.read_standard_header-standard.ensures,
+      u.0,
+      ← u.1,
       ← c.headers_after-following.ensures,
       ← m.ensures,
       c.if-is_misfit.false,

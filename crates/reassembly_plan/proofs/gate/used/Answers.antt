@@ -1,32 +1,29 @@
--- No slot from i on has a number.
-use mathlib.Core.Path.{◌≡◌, subst}
+use Rattle.std.proofs.Common.{ℕ, ◌≡◌, subst, ◌∙◌, ◌+◌, ◌-◌, ◌≤◌, ◌<◌, List, length, get_or, take, drop, arith}
 use mathlib.Core.Logic.{⊎_elim}
-use Prim.Native.Nat.{ℕ, ◌+◌, ◌-◌, ◌≤◌}
-use native.Mathlib.Omega.{arith}
-use lib.ListN.{get_or}
+use lib.ListN.{length-drop}
+use lib.Seq.{get_or-take, get_or-drop}
 use Rattle.laws.proofs.Cases.{lt_or_le}
 use Rattle.reassembly_plan.proofs.gate.used.Goals as goal
 
-pub loop-i-init : goal.loop-i-init
-loop-i-init c = (omega arith, λ j l h. absurd (omega arith))
+module _ (slots rest : List ℕ) (m : ℕ) (long : m + 8 ≡ length rest) (same : (j : ℕ) → j < length rest → get_or rest j 0 ≡ get_or slots j 0) where
+  front_same : (j : ℕ) → j < m → get_or (take m rest) j 0 ≡ get_or slots j 0
+  front_same j h = get_or-take m rest j 0 h ∙ same j (omega arith)
 
-pub returns-then-not-none_in : goal.returns-then-not-none_in
-returns-then-not-none_in c = (c.loop-i.invariant.0, c.loop-i.invariant.1)
+  part_none : ((k : ℕ) → k < length (drop m rest) → 65536 ≤ get_or (drop m rest) k 0) → (j : ℕ) → m ≤ j → j < length rest → 65536 ≤ get_or slots j 0
+  part_none none j h l =
+      let e : m + (j - m) ≡ j = omega arith in
+      subst (λ (x : ℕ). 65536 ≤ x) (get_or-drop m rest (j - m) 0 ∙ rw e (same j l)) (none (j - m) (rw length-drop (omega arith)))
 
-pub loop-i-preserved : goal.loop-i-preserved
-loop-i-preserved c =
-    let l = c.loop-i in
+pub loop-front-preserved : goal.loop-front-preserved
+loop-front-preserved c =
     let s = c.args.slots.now in
-    let none = c.none_in.ensures (c.if-not-none_in.false) in (
-      omega arith,
-      λ j h w.
-          ⊎_elim
-          (λ v.
-          let e : l.i - 8 + (j - (l.i - 8)) ≡ j = omega arith in
-          subst (λ (x : ℕ). 65536 ≤ get_or s x 0) e (none (j - (l.i - 8)) (omega arith)))
-          (λ v. l.invariant.1 j v w)
-          (lt_or_le j l.i),
+    let r = c.loop-front.rest.now in
+    let i = c.loop-front.invariant in
+    let g = c.in-Some.ensures.cases in
+    let m : ℕ = length r - 8 in
+    let long : m + 8 ≡ length r = omega (arith, g.2) in
+    let e : length c.in-Some.front.now ≡ m = omega (arith, g.2) in (
+      omega (arith, i.0),
+      rw (e, g.0) (front_same s r m long i.1),
+      rw e (λ j h l. ⊎_elim (λ v. part_none s r m long i.1 (rw g.1 at (c.none_below.ensures c.if-not-none_below.false)) j h v) (λ v. i.2 j v l) (lt_or_le j (length r))),
     )
-
-pub returns : goal.returns
-returns c = (c.loop-i.invariant.0, c.loop-i.invariant.1)

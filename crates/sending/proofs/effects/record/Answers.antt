@@ -1,4 +1,4 @@
 use Rattle.sending.proofs.effects.record.Goals as goal
 
 pub returns : goal.returns
-returns c = rw c.ordering_number.ensures
+returns c = rw c.from.ensures

@@ -7,11 +7,13 @@ use lib.Dec.{ltb, eqb}
 use lib.ListN.{length}
 use borrow.Author.Tests.{lt-ltb, le-ltb, eq-eqb, ne_eqb}
 use Rattle.terms.proofs.Ranges.{InRange, in_range_means}
+use native.Mathlib.Nat.{le_antisymm}
+use Rattle.flight.proofs.Found.{found_is, found_none}
 use Rattle.splitter.specs.Split.{needed}
-use Rattle.sending.specs.Plan.{is_listed, is_long, stream_place, is_full}
-use Rattle.sending.proofs.Planned.{as_many, no_place, unlisted, too_long, too_many, fifth, no_room, goes}
+use Rattle.sending.specs.Plan.{is_listed, is_long, stream_place}
+use Rattle.sending.proofs.Planned.{as_many, no_place, place_most, unlisted, too_long, too_many, fifth, no_room, goes}
 use Rattle.sending.proofs.plan.judge.Goals as goal
-use Rattle.sending.proofs.plan.judge.Goals.{After-flight_place-at, Else-is_long, Else-not-is_listed, Else-sizes-count, Else-stream-eq4, Start}
+use Rattle.sending.proofs.plan.judge.Goals.{Else-is_long, Else-not-is_listed, Else-sizes-count, Else-stream-eq4, Start}
 
 sizes : (c : Start) → InRange c.args.sizes
 sizes c = in_range_means c.args.sizes c.requires.0
@@ -32,9 +34,6 @@ few c =
 
 known : (c : Else-stream-eq4) → eqb (stream_place c.args.item c.args.ordered c.args.sequenced) 4 ≡ false
 known c = ap (λ (k : ℕ). eqb k 4) (sym c.stream_place-stream.ensures) ∙ ne_eqb _ _ c.if-stream-eq4.false
-
-fullness : (c : After-flight_place-at) → is_full c.args.item.delivery c.args.acks.sequence_number.0 c.args.number.now ≡ eqb c.flight_place-at.result (length c.args.number.now)
-fullness c = no_place c.args.item.delivery c.args.acks.sequence_number.0 c.args.number.now ((omega (arith, c.requires.1, ((in_range_means c.args.sizes c.requires.0)).n.0))) ∙ ap (λ (k : ℕ). eqb k (length c.args.number.now)) (sym c.flight_place-at.ensures)
 
 pub returns-then-not-is_listed : goal.returns-then-not-is_listed
 returns-then-not-is_listed c =
@@ -64,18 +63,20 @@ returns-then-stream-eq4 c =
     let out : eqb (stream_place a.item a.ordered a.sequenced) 4 ≡ true = ap (λ (k : ℕ). eqb k 4) (sym c.stream_place-stream.ensures) ∙ eq-eqb _ _ c.if-stream-eq4.true in
     sym (fifth a.sizes _ _ _ _ _ _ (listed (goal.at.returns-then-stream-eq4 c).Else-not-is_listed) (short (goal.at.returns-then-stream-eq4 c).Else-is_long) (few (goal.at.returns-then-stream-eq4 c).Else-sizes-count) out)
 
-pub flight_place-at-requires : goal.flight_place-at-requires
-flight_place-at-requires c = (some (goal.at.flight_place-at-requires c).Start, c.requires.4)
+pub flight_place-requires : goal.flight_place-requires
+flight_place-requires c = (some (goal.at.flight_place-requires c).Start, c.requires.4)
 
-pub returns-then-at-number : goal.returns-then-at-number
-returns-then-at-number c =
+pub returns-in_default : goal.returns-in_default
+returns-in_default c =
     let a = c.args in
-    let out = fullness (goal.at.returns-then-at-number c).After-flight_place-at ∙ eq-eqb _ _ c.if-at-number.true in
-    sym (no_room a.sizes _ _ _ _ _ _ (listed (goal.at.returns-then-at-number c).Else-not-is_listed) (short (goal.at.returns-then-at-number c).Else-is_long) (few (goal.at.returns-then-at-number c).Else-sizes-count) (known (goal.at.returns-then-at-number c).Else-stream-eq4) out)
+    let most = found_none _ _ (sym c.in_default.ensures) in
+    let out = no_place a.item.delivery a.acks.sequence_number.0 a.number.now (some (goal.at.returns-in_default c).Start) ∙ eq-eqb _ _ (le_antisymm (place_most a.item.delivery a.acks.sequence_number.0 a.number.now (some (goal.at.returns-in_default c).Start)) most) in
+    sym (no_room a.sizes _ _ _ _ _ _ (listed (goal.at.returns-in_default c).Else-not-is_listed) (short (goal.at.returns-in_default c).Else-is_long) (few (goal.at.returns-in_default c).Else-sizes-count) (known (goal.at.returns-in_default c).Else-stream-eq4) out)
 
 pub returns : goal.returns
 returns c =
     let a = c.args in
-    let free = fullness (goal.at.returns c).After-flight_place-at ∙ ne_eqb _ _ c.if-at-number.false in
-    rw (c.flight_place-at.ensures, c.stream_place-stream.ensures)
+    let here = found_is _ _ c.in-Some.at (sym c.in-Some.ensures) in
+    let free = no_place a.item.delivery a.acks.sequence_number.0 a.number.now (some (goal.at.returns c).Start) ∙ ne_eqb _ _ (λ e. omega (arith, here.1)) in
+    rw (← here.0, c.stream_place-stream.ensures)
     (sym (goes a.sizes _ _ _ _ _ _ (listed (goal.at.returns c).Else-not-is_listed) (short (goal.at.returns c).Else-is_long) (few (goal.at.returns c).Else-sizes-count) (known (goal.at.returns c).Else-stream-eq4) free))

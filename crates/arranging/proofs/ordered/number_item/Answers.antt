@@ -1,4 +1,0 @@
-use Rattle.arranging.proofs.ordered.number_item.Goals as goal
-
-pub returns : goal.returns
-returns c = rw (c.with.ensures, c.new_item_identifier-new.ensures, c.at-stream.ensures)

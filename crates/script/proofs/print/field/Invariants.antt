@@ -1,9 +1,0 @@
--- A digit a turn.
-use Rattle.std.proofs.Common.{◌≤◌, ◌-◌}
-use Rattle.script.proofs.print.field.Given as goal
-
-abbrev pub invariant-loop-k : goal.invariant-loop-k
-invariant-loop-k l = l.k ≤ 8
-
-abbrev pub decreases-loop-k : goal.decreases-loop-k
-decreases-loop-k l = 8 - l.k

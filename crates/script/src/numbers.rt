@@ -1,0 +1,58 @@
+// The numbers in a body. It is read from its front, and one that is too short or too long for its tag is bad.
+use crate::Stop;
+
+// What is left of a body.
+#[derive(Clone, Copy)]
+pub struct Body<'a>(pub &'a [u8]);
+
+// laminar's stream where none is given.
+const DEFAULT_STREAM: u8 = 255;
+
+impl<'a> Body<'a> {
+    pub fn byte(&mut self) -> Result<u8, Stop> {
+        let [byte] = self.bytes::<1>()?;
+        Ok(byte)
+    }
+
+    // A byte below a limit, as one that stands for a kind.
+    pub fn below(&mut self, limit: u8) -> Result<u8, Stop> {
+        let byte = self.byte()?;
+        if byte < limit {
+            Ok(byte)
+        } else {
+            Err(Stop::Bad)
+        }
+    }
+
+    pub fn number(&mut self) -> Result<u16, Stop> {
+        Ok(u16::from_be_bytes(self.bytes()?))
+    }
+
+    pub fn long(&mut self) -> Result<u32, Stop> {
+        Ok(u32::from_be_bytes(self.bytes()?))
+    }
+
+    // Whether a stream is given, 0 or 1, and then the stream.
+    pub fn stream(&mut self) -> Result<u8, Stop> {
+        let given = self.below(2)? == 1;
+        let stream = self.byte()?;
+        Ok(if given { stream } else { DEFAULT_STREAM })
+    }
+
+    // Nothing is left.
+    pub fn end(self) -> Result<(), Stop> {
+        if self.0.is_empty() {
+            Ok(())
+        } else {
+            Err(Stop::Bad)
+        }
+    }
+
+    fn bytes<const N: usize>(&mut self) -> Result<[u8; N], Stop> {
+        let Some((bytes, rest)) = self.0.split_first_chunk() else {
+            return Err(Stop::Bad);
+        };
+        self.0 = rest;
+        Ok(*bytes)
+    }
+}
