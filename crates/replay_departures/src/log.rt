@@ -1,6 +1,8 @@
 // A row of byte strings in one array: the datagrams that an end has sent, or the payloads that it has given up. Its limits are
 // those of a script's form, so it has fixed memory and no heap.
 
+ghost use Rattle.std.specs.Prelude.{◌≡◌, ◌≤◌, true, false, None};
+
 // One more than the most strings.
 const ENDS: usize = 1025;
 
@@ -15,7 +17,9 @@ pub struct Log {
 }
 
 impl Log {
-    pub fn new() -> Log {
+    pub fn new() -> Log
+        ensures { (result.count ≡ 0) × (result.full ≡ false) }
+    {
         Log {
             ends: [0; ENDS],
             count: 0,
@@ -24,11 +28,15 @@ impl Log {
         }
     }
 
-    pub fn is_full(&self) -> bool {
+    pub fn is_full(&self) -> bool
+        ensures { result ≡ self.now.full }
+    {
         self.full
     }
 
-    pub fn get(&self, place: usize) -> Option<&[u8]> {
+    pub fn get(&self, place: usize) -> Option<&[u8]>
+        ensures { self.now.count ≤ place → result ≡ None }
+    {
         if self.count <= place {
             return None;
         }
@@ -37,14 +45,18 @@ impl Log {
         self.bytes.get(start..end)
     }
 
-    pub fn push(&mut self, given: &[u8]) {
+    pub fn push(&mut self, given: &[u8])
+        ensures { self.old.full ≡ true → self.new.full ≡ true }
+    {
         if self.put(given).is_none() {
             self.full = true;
         }
     }
 
     // None where there is no room.
-    fn put(&mut self, given: &[u8]) -> Option<()> {
+    fn put(&mut self, given: &[u8]) -> Option<()>
+        ensures { self.new.full ≡ self.old.full }
+    {
         let start = *self.ends.get(self.count)?;
         let end = start.checked_add(given.len())?;
         let next = self.count.checked_add(1)?;

@@ -2,6 +2,8 @@
 // came of a field. Only the program `replay` and its modules use this crate.
 #![tactic(auto)]
 
+ghost use Rattle.std.specs.Prelude.{◌≡◌, ◌≤◌, ◌<◌, [], length, take};
+
 use std::io;
 
 mod fields;
@@ -34,6 +36,9 @@ pub fn missing(out: &impl Print) -> Result<(), Stop> {
 }
 
 // The first bytes of an output, none where it has not so many.
-pub fn front(bytes: &[u8], length: usize) -> &[u8] {
-    bytes.get(..length).unwrap_or(&[])
+pub fn front(bytes: &[u8], count: usize) -> &[u8]
+    ensures there { count ≤ length bytes.now → result.now ≡ take count bytes.now }
+    ensures none { length bytes.now < count → result.now ≡ [] }
+{
+    bytes.get(..count).unwrap_or(&[])
 }

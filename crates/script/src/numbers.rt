@@ -1,4 +1,7 @@
 // The numbers in a body. It is read from its front, and one that is too short or too long for its tag is bad.
+ghost use Rattle.std.specs.Prelude.{◌≡◌, ◌<◌, [], ◌∷◌, ◌++◌, Ok, Err, IfOk, IsErr};
+ghost use Rattle.script.specs.declared.Stop.TheVariants.{Bad};
+
 use crate::Stop;
 
 // What is left of a body.
@@ -9,13 +12,18 @@ pub struct Body<'a>(pub &'a [u8]);
 const DEFAULT_STREAM: u8 = 255;
 
 impl<'a> Body<'a> {
-    pub fn byte(&mut self) -> Result<u8, Stop> {
+    pub fn byte(&mut self) -> Result<u8, Stop>
+        ensures { IfOk result (λ byte. self.old.0.now ≡ byte ∷ self.new.0.now) }
+    {
         let [byte] = self.bytes::<1>()?;
         Ok(byte)
     }
 
     // A byte below a limit, as one that stands for a kind.
-    pub fn below(&mut self, limit: u8) -> Result<u8, Stop> {
+    pub fn below(&mut self, limit: u8) -> Result<u8, Stop>
+        ensures first { IfOk result (λ byte. self.old.0.now ≡ byte ∷ self.new.0.now) }
+        ensures small { IfOk result (λ byte. byte < limit) }
+    {
         let byte = self.byte()?;
         if byte < limit {
             Ok(byte)
@@ -40,7 +48,10 @@ impl<'a> Body<'a> {
     }
 
     // Nothing is left.
-    pub fn end(self) -> Result<(), Stop> {
+    pub fn end(self) -> Result<(), Stop>
+        ensures ok { self.entry.0.now ≡ [] → result ≡ Ok tt }
+        ensures bad { IfOk result (λ _. self.entry.0.now ≡ []) }
+    {
         if self.0.is_empty() {
             Ok(())
         } else {
@@ -48,7 +59,9 @@ impl<'a> Body<'a> {
         }
     }
 
-    fn bytes<const N: usize>(&mut self) -> Result<[u8; N], Stop> {
+    fn bytes<const N: usize>(&mut self) -> Result<[u8; N], Stop>
+        ensures { IfOk result (λ bytes. self.old.0.now ≡ bytes ++ self.new.0.now) }
+    {
         let Some((bytes, rest)) = self.0.split_first_chunk() else {
             return Err(Stop::Bad);
         };
