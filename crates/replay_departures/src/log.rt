@@ -1,7 +1,7 @@
 // A row of byte strings in one array: the datagrams that an end has sent, or the payloads that it has given up. Its limits are
 // those of a script's form, so it has fixed memory and no heap.
 
-ghost use Rattle.std.specs.Prelude.{◌≡◌, ◌≤◌, true, false, None};
+ghost use Rattle.std.specs.Prelude.{◌≡◌, ◌≤◌, ◌<◌, ◌+◌, ◌-◌, true, false, None, IfSome, take, drop, slice_index};
 
 // One more than the most strings.
 const ENDS: usize = 1025;
@@ -35,7 +35,8 @@ impl Log {
     }
 
     pub fn get(&self, place: usize) -> Option<&[u8]>
-        ensures { self.now.count ≤ place → result ≡ None }
+        ensures none { self.now.count ≤ place → result ≡ None }
+        ensures there { place < self.now.count → place < 1024 → slice_index self.now.ends place ≤ slice_index self.now.ends (place + 1) → slice_index self.now.ends (place + 1) ≤ 262144 → IfSome result (λ string. string.now ≡ take (slice_index self.now.ends (place + 1) - slice_index self.now.ends place) (drop (slice_index self.now.ends place) self.now.bytes)) }
     {
         if self.count <= place {
             return None;

@@ -1,5 +1,5 @@
 // The numbers in a body. It is read from its front, and one that is too short or too long for its tag is bad.
-ghost use Rattle.std.specs.Prelude.{◌≡◌, ◌<◌, [], ◌∷◌, ◌++◌, Ok, Err, IfOk, IsErr};
+ghost use Rattle.std.specs.Prelude.{◌≡◌, ◌<◌, ◌≤◌, ◌⊎◌, [], ◌∷◌, ◌++◌, length, drop, slice_index, Ok, IfOk, IfErr};
 ghost use Rattle.script.specs.declared.Stop.TheVariants.{Bad};
 
 use crate::Stop;
@@ -13,7 +13,8 @@ const DEFAULT_STREAM: u8 = 255;
 
 impl<'a> Body<'a> {
     pub fn byte(&mut self) -> Result<u8, Stop>
-        ensures { IfOk result (λ byte. self.old.0.now ≡ byte ∷ self.new.0.now) }
+        ensures first { IfOk result (λ byte. self.old.0.now ≡ byte ∷ self.new.0.now) }
+        ensures none { IfErr result (λ why. (why ≡ Bad) × (self.old.0.now ≡ []) × (self.new.0.now ≡ [])) }
     {
         let [byte] = self.bytes::<1>()?;
         Ok(byte)
@@ -23,6 +24,8 @@ impl<'a> Body<'a> {
     pub fn below(&mut self, limit: u8) -> Result<u8, Stop>
         ensures first { IfOk result (λ byte. self.old.0.now ≡ byte ∷ self.new.0.now) }
         ensures small { IfOk result (λ byte. byte < limit) }
+        ensures bad { IfErr result (λ why. (why ≡ Bad) × (length self.old.0.now ≡ 0 ⊎ limit ≤ slice_index self.old.0.now 0)) }
+        ensures left { self.new.0.now ≡ drop 1 self.old.0.now }
     {
         let byte = self.byte()?;
         if byte < limit {
@@ -60,7 +63,8 @@ impl<'a> Body<'a> {
     }
 
     fn bytes<const N: usize>(&mut self) -> Result<[u8; N], Stop>
-        ensures { IfOk result (λ bytes. self.old.0.now ≡ bytes ++ self.new.0.now) }
+        ensures first { IfOk result (λ bytes. self.old.0.now ≡ bytes ++ self.new.0.now) }
+        ensures none { IfErr result (λ why. (why ≡ Bad) × (length self.old.0.now < N) × (self.new.0.now ≡ self.old.0.now)) }
     {
         let Some((bytes, rest)) = self.0.split_first_chunk() else {
             return Err(Stop::Bad);
