@@ -103,9 +103,9 @@ planned s index id i =
     (λ a. rw a (item (stream_at s (place_of s.known id)) (part index (place_of s.known id * 64) 64) i))
 
 in_order : (p : Planned) (a : Result Arranged Refusal) (it : ReceivedItem) → p.plan ≡ a → Other (number_of_arranged a) → Other (number_of_answer (told (ordered_as a p) it))
-in_order p (Ok Out) it q h = nothing
-in_order p (Ok (Held k)) it q h = nothing
-in_order p (Ok Old) it q h = nothing
+in_order p (Ok Out) it q h = rw q nothing
+in_order p (Ok (Held k)) it q h = rw q nothing
+in_order p (Ok Old) it q h = rw q nothing
 in_order p (Err why) it q h = h
 
 in_sequence : (a : Sequence) (it : ReceivedItem) → Other (number_of_answer (Ok (sequenced_told a it)))

@@ -11,7 +11,6 @@ use Rattle.laws.proofs.Cases.{case, no_refusal, same_reason}
 use Rattle.terms.specs.Refusals.{number_of}
 use Rattle.terms.specs.declared.Sizes.{Sizes}
 use Rattle.terms.specs.declared.Refusal.{Refusal}
-use Rattle.terms.specs.declared.Refusal.TheVariants.{ExceededMaxFragments, MissingAckHeader}
 use Rattle.acks.specs.State.{table_of}
 use Rattle.packet.specs.Read.{read_of}
 use Rattle.packet_table.specs.declared.Headers.{Headers}
@@ -27,20 +26,15 @@ use Rattle.reassembly_plan.specs.declared.plan.Plan.{Plan as PartPlan}
 use Rattle.reassembly_plan.specs.declared.plan.Plan.TheVariants.{Make, Join}
 use Rattle.ordering_plan.specs.declared.Arranged.{Arranged}
 use Rattle.ordering_plan.specs.declared.Arranged.TheVariants.{Out as GoesOut, Held as IsHeld, Old as IsOld}
-use Rattle.sequencing.specs.Sequence.{sequence_of}
-use Rattle.sequencing.specs.declared.Sequenced.{Sequenced as Sequence}
-use Rattle.sequencing.specs.declared.Sequenced.TheVariants.{Out as Newest, Dropped as Passed}
 use Rattle.arranging_plan.specs.Ids.{place_of}
 use Rattle.arranging_plan.specs.Ordered.{plan_on, next_on}
-use Rattle.arranging.specs.Sequenced.{stream_at as sequenced_at}
 use Rattle.arranging_plan.specs.declared.ordered.Planned.{Planned}
 use Rattle.ends.specs.State.{State}
 use Rattle.ends.specs.Gate.{gate_of}
-use Rattle.receiving_plan.specs.Plan.{sequenced_plan, sequenced_told, ordered_as, plan_by, plan_of, item_of}
+use Rattle.receiving_plan.specs.Plan.{sequenced_plan, ordered_as, plan_by, plan_of, item_of}
 use Rattle.receiving_fragments.specs.Fragments.{part_of, part_plan, part_slot, parts_after, acks_at_whole, told_part}
 use Rattle.receiving.specs.Receive.{hearing, packet_as, packet_of, fragment_of as part_outcome, by_type, read_as, received_of}
 use Rattle.receiving_plan.specs.declared.Item.{Item as ReceivedItem}
-use Rattle.receiving_plan.specs.declared.Answer.TheVariants.{Out, Held, Old, Dropped, Waiting}
 use Rattle.sending.specs.Plan.{plan_of as send_plan}
 use Rattle.sending.specs.Send.{transmitted_as, transmitted_of}
 use Rattle.datagrams.specs.Further.{has_further, further_of, further_output}
@@ -63,9 +57,9 @@ module _ (z : Sizes) (h : Headers) (payload : List ℕ) (s : State) (output : Li
   in_order : (p : Planned) (a : Result Arranged Refusal) → p.plan ≡ a
       → (packet_as (ordered_as a p) z h payload s output).answer ≡ Err why
       → Unchanged s output (packet_as (ordered_as a p) z h payload s output).end (packet_as (ordered_as a p) z h payload s output).output
-  in_order p (Ok GoesOut) q e = no_refusal e
-  in_order p (Ok (IsHeld k)) q e = no_refusal e
-  in_order p (Ok IsOld) q e = no_refusal e
+  in_order p (Ok GoesOut) q e = no_refusal (rw q at e)
+  in_order p (Ok (IsHeld k)) q e = no_refusal (rw q at e)
+  in_order p (Ok IsOld) q e = no_refusal (rw q at e)
   in_order p (Err reason) q e = same s output
 
   by_ordering : (o : OrderingGuarantee)

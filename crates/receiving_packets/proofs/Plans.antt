@@ -32,17 +32,16 @@ use Rattle.receiving_packets.specs.declared.Received.{Received}
 use Rattle.receiving_plan.specs.declared.Plan.{Plan}
 use Rattle.receiving_plan.specs.declared.Plan.TheVariants.{Sequenced, Ordered}
 use Rattle.receiving_plan.specs.declared.Sequencing.{Sequencing}
-use Rattle.receiving_plan.specs.declared.Ordering.{Ordering}
 
 ordered_apart : (a : Result Arranged Refusal) (p : Planned) (q : Sequencing) → ordered_as a p ≡ Ok (Sequenced q) → ⊥
 ordered_apart (Ok a) p q e = let z : ◌≡◌ {A = ℕ} 0 1 = cc in omega arith
 ordered_apart (Err why) p q e = no_answer e
 
 -- a plan of an ordered item is the one that was found, and no refusal
-carried : (a : Result Arranged Refusal) (p : Planned) (r : Ordering) → ordered_as a p ≡ Ok (Ordered r) → (r.at ≡ p.at) × (Ok r.answer ≡ a) × (is_refused a ≡ false)
-carried (Ok GoesOut) p r e = (cc, cc, refl)
-carried (Ok (IsHeld k)) p r e = (cc, cc, refl)
-carried (Ok IsOld) p r e = (cc, cc, refl)
+carried : (a : Result Arranged Refusal) (p r : Planned) → ordered_as a p ≡ Ok (Ordered r) → (r ≡ p) × (is_refused a ≡ false)
+carried (Ok GoesOut) p r e = (cc, refl)
+carried (Ok (IsHeld k)) p r e = (cc, refl)
+carried (Ok IsOld) p r e = (cc, refl)
 carried (Err why) p r e = no_answer e
 
 module _ (o : OrderingStreams) (index : List ℕ) (s : SequencingStreams) (i : ArrangingHeader) where
@@ -60,22 +59,22 @@ module _ (o : OrderingStreams) (index : List ℕ) (s : SequencingStreams) (i : A
   sequenced_by_lem InSequence q few e = sequenced_at q few e
   sequenced_by_lem InOrder q few e = absurd (ordered_apart (plan_on o index i.stream i.index.0).plan _ q e)
 
-  ordered_at : (p : Ordering) → o.known.made ≤ 4 → ordered_plan (plan_on o index i.stream i.index.0) ≡ Ok (Ordered p)
-      → (p.at < 4) × (Ok p.answer ≡ item_plan (stream_at o p.at) (part index (p.at * 64) 64) i.index.0)
+  ordered_at : (p : Planned) → o.known.made ≤ 4 → ordered_plan (plan_on o index i.stream i.index.0) ≡ Ok (Ordered p)
+      → (p.at < 4) × (p.plan ≡ item_plan (stream_at o p.at) (part index (p.at * 64) 64) i.index.0)
   ordered_at p few e =
       let w = carried (plan_on o index i.stream i.index.0).plan (plan_on o index i.stream i.index.0) p e in
-      let a = accepted (lending_all o index [] []) i.stream i.index.0 w.2 in
-      rw (w.0, w.1, a.place_is, a.plan_is) (place_under o.known i.stream few a.other, refl)
+      let a = accepted (lending_all o index [] []) i.stream i.index.0 w.1 in
+      rw (w.0, a.place_is, a.plan_is) (place_under o.known i.stream few a.other, refl)
 
-  sequenced_no : (p : Ordering) → sequenced_plan s i ≡ Ok (Ordered p) → ⊥
+  sequenced_no : (p : Planned) → sequenced_plan s i ≡ Ok (Ordered p) → ⊥
   unfolding sequenced_plan
   sequenced_no p e =
       case (eqb (place_of s.known i.stream) 4)
       (λ t. let w = rw t at e in let z : ◌≡◌ {A = ℕ} 0 1 = cc in omega arith)
       (λ t. let w = rw t at e in let z : ◌≡◌ {A = ℕ} 0 1 = cc in omega arith)
 
-  ordered_by_lem : (g : OrderingGuarantee) (p : Ordering) → o.known.made ≤ 4 → plan_by g i o index s ≡ Ok (Ordered p)
-      → (p.at < 4) × (Ok p.answer ≡ item_plan (stream_at o p.at) (part index (p.at * 64) 64) i.index.0)
+  ordered_by_lem : (g : OrderingGuarantee) (p : Planned) → o.known.made ≤ 4 → plan_by g i o index s ≡ Ok (Ordered p)
+      → (p.at < 4) × (p.plan ≡ item_plan (stream_at o p.at) (part index (p.at * 64) 64) i.index.0)
   ordered_by_lem None p few e = absurd (let z : ◌≡◌ {A = ℕ} 0 1 = cc in omega arith)
   ordered_by_lem InSequence p few e = absurd (sequenced_no p e)
   ordered_by_lem InOrder p few e = ordered_at p few e

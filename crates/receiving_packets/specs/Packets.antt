@@ -18,7 +18,7 @@ use Rattle.receiving_packets.specs.declared.Received.{Received}
 use Rattle.receiving_plan.specs.declared.Answer.{Answer}
 use Rattle.receiving_plan.specs.declared.Answer.TheVariants.{Out, Held, Old, Dropped, Waiting, Heartbeat}
 use Rattle.receiving_plan.specs.declared.Sequencing.{Sequencing}
-use Rattle.receiving_plan.specs.declared.Ordering.{Ordering}
+use Rattle.arranging_plan.specs.declared.ordered.Planned.{Planned}
 use Rattle.receiving_plan.specs.declared.Plan.{Plan}
 use Rattle.receiving_plan.specs.declared.Plan.TheVariants.{Unordered, Sequenced, Ordered}
 use Rattle.terms.specs.declared.Refusal.{Refusal}
@@ -34,7 +34,7 @@ abbrev pub ordered_by : Result Plan Refusal → ℕ → ArrangingHeader → List
 ordered_by (Err why) f i payload s = s
 ordered_by (Ok Unordered) f i payload s = s
 ordered_by (Ok (Sequenced q)) f i payload s = s
-ordered_by (Ok (Ordered p)) f i payload s = stored_at f s p.at i.stream (arranged (Ok p.answer) f i.index.0 payload (state_at f s p.at))
+ordered_by (Ok (Ordered p)) f i payload s = stored_at f s p.at i.stream (arranged p.plan f i.index.0 payload (state_at f s p.at))
 
 -- "An accepted call that hands out nothing leaves the output untouched; bytes after an item stay."
 abbrev pub handed : Result Answer Refusal → List ℕ → List ℕ → List ℕ
@@ -86,4 +86,4 @@ SequencedReady plan s = (q : Sequencing) → plan ≡ Ok (Sequenced q) → (q.at
 
 abbrev pub OrderedReady : Result Plan Refusal → OrderingStreams → List ℕ → ArrangingHeader → Type 0
 OrderedReady plan s index i =
-    (p : Ordering) → plan ≡ Ok (Ordered p) → (p.at < 4) × (Ok p.answer ≡ item_plan (stream_at s p.at) (part index (p.at * 64) 64) i.index.0)
+    (p : Planned) → plan ≡ Ok (Ordered p) → (p.at < 4) × (p.plan ≡ item_plan (stream_at s p.at) (part index (p.at * 64) 64) i.index.0)

@@ -175,7 +175,7 @@ fn arrange(
     requires { RoomForAll f (lending_all streams index.old lengths.old held.old) × (length payload.now ≤ f) × OrderedReady (Ok plan) streams index.old item }
     ensures { LeavesAll (ordered_by (Ok plan) f item payload.now (lending_all streams index.old lengths.old held.old)) result index.new lengths.new held.new }
 {
-    let Plan::Ordered(ordering) = plan else {
+    let Plan::Ordered(planned) = plan else {
         return streams;
     };
     arranging::ordered::perform(
@@ -184,8 +184,8 @@ fn arrange(
         index,
         lengths,
         held,
-        ordering.at,
-        Ok(ordering.answer),
+        planned.at,
+        planned.plan,
         item.stream,
         item.index,
         payload,

@@ -32,7 +32,7 @@ sequenced_plan s i =
 
 -- 7 and 6 as `arranging` finds them; else what module 4 says
 abbrev pub ordered_as : Result Arranged Refusal → Planned → Result Plan Refusal
-ordered_as (Ok a) p = Ok (Ordered (record { at = p.at; answer = a }))
+ordered_as (Ok a) p = Ok (Ordered p)
 ordered_as (Err why) p = Err why
 
 abbrev pub ordered_plan : Planned → Result Plan Refusal
@@ -55,19 +55,17 @@ abbrev pub sequenced_told : Sequence → Item → Answer
 sequenced_told Newest item = Out item
 sequenced_told Passed item = Dropped
 
-abbrev pub ordered_told : Arranged → Item → Answer
-ordered_told GoesOut item = Out item
-ordered_told (IsHeld k) item = Held
-ordered_told IsOld item = Old
-
-abbrev pub told_of : Plan → Item → Answer
-told_of Unordered item = Out item
-told_of (Sequenced q) item = sequenced_told q.answer item
-told_of (Ordered p) item = ordered_told p.answer item
+abbrev pub ordered_told : Result Arranged Refusal → Item → Result Answer Refusal
+ordered_told (Ok GoesOut) item = Ok (Out item)
+ordered_told (Ok (IsHeld k)) item = Ok Held
+ordered_told (Ok IsOld) item = Ok Old
+ordered_told (Err why) item = Err why
 
 abbrev pub told : Result Plan Refusal → Item → Result Answer Refusal
 told (Err why) item = Err why
-told (Ok p) item = Ok (told_of p item)
+told (Ok Unordered) item = Ok (Out item)
+told (Ok (Sequenced q)) item = Ok (sequenced_told q.answer item)
+told (Ok (Ordered p)) item = ordered_told p.plan item
 
 abbrev pub item_of : Headers → ℕ → Item
 item_of h length =

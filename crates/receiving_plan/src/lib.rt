@@ -5,7 +5,7 @@
 
 ghost use Rattle.std.specs.Prelude.{◌≡◌, ℕ, ◌≤◌, ◌<◌, length};
 ghost use Rattle.arranging_plan.specs.Ordered.{stream_at};
-ghost use Rattle.receiving_plan.specs.Plan.{plan_of, sequenced_plan, ordered_plan, told_of, sequenced_told, ordered_told, told};
+ghost use Rattle.receiving_plan.specs.Plan.{plan_of, sequenced_plan, ordered_plan, sequenced_told, ordered_told, told};
 
 use arranging::ordered::OrderingStreams;
 use arranging::sequenced::SequencingStreams;
@@ -46,19 +46,13 @@ pub struct Sequencing {
     pub answer: Sequenced,
 }
 
-// What becomes of an ordered item, and the place of its stream.
-#[derive(Clone, Copy)]
-pub struct Ordering {
-    pub at: usize,
-    pub answer: Arranged,
-}
-
 #[derive(Clone, Copy)]
 pub enum Plan {
     // An unordered item is handed out at each arrival.
     Unordered,
     Sequenced(Sequencing),
-    Ordered(Ordering),
+    // What `judge` plans is none that was refused.
+    Ordered(Planned),
 }
 
 // Requires sound streams.
@@ -101,25 +95,18 @@ fn on_sequenced(sequenced: SequencingStreams, item: ArrangingHeader) -> Result<P
 fn on_ordered(planned: Planned) -> Result<Plan, Refusal>
     ensures { result ≡ ordered_plan planned }
 {
-    let at = planned.at;
-    let answer = planned.plan?;
-    Ok(Plan::Ordered(Ordering { at, answer }))
+    planned.plan?;
+    Ok(Plan::Ordered(planned))
 }
 
 // What is answered.
 pub fn tell(plan: Result<Plan, Refusal>, item: Item) -> Result<Answer, Refusal>
     ensures { result ≡ told plan item }
 {
-    Ok(tell_planned(plan?, item))
-}
-
-fn tell_planned(plan: Plan, item: Item) -> Answer
-    ensures { result ≡ told_of plan item }
-{
-    match plan {
-        Plan::Unordered => Answer::Out(item),
-        Plan::Sequenced(sequencing) => tell_sequenced(sequencing.answer, item),
-        Plan::Ordered(ordering) => tell_ordered(ordering.answer, item),
+    match plan? {
+        Plan::Unordered => Ok(Answer::Out(item)),
+        Plan::Sequenced(sequencing) => Ok(tell_sequenced(sequencing.answer, item)),
+        Plan::Ordered(planned) => tell_ordered(planned.plan, item),
     }
 }
 
@@ -132,12 +119,12 @@ fn tell_sequenced(answer: Sequenced, item: Item) -> Answer
     }
 }
 
-fn tell_ordered(answer: Arranged, item: Item) -> Answer
-    ensures { result ≡ ordered_told answer item }
+fn tell_ordered(plan: Result<Arranged, Refusal>, item: Item) -> Result<Answer, Refusal>
+    ensures { result ≡ ordered_told plan item }
 {
-    match answer {
+    Ok(match plan? {
         Arranged::Out => Answer::Out(item),
         Arranged::Held(_) => Answer::Held,
         Arranged::Old => Answer::Old,
-    }
+    })
 }
