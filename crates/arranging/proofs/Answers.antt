@@ -1,10 +1,11 @@
 -- The whole answers, by what the gate says, and what is left past it. Assumes nothing.
 use Prim.Native.Nat.{ℕ, ◌≤◌, ◌<◌}
 use mathlib.Core.Path.{◌≡◌, refl, sym}
+use mathlib.Core.Bool.{false}
 use mathlib.Core.List.{List}
 use lib.ListN.{length}
 use borrow.Author.Tests.{lt-ltb, le-ltb}
-use Rattle.std.specs.Prelude.{Ok, Err}
+use Rattle.std.specs.Prelude.{Result, Ok, Err}
 use Rattle.terms.specs.declared.Sizes.{Sizes}
 use Rattle.terms.specs.declared.Refusal.{Refusal}
 use Rattle.terms.specs.declared.Refusal.TheVariants.{TooLong}
@@ -13,7 +14,7 @@ use Rattle.ordering_plan.specs.Arrange.{handed_out, arranged}
 use Rattle.ordering_plan.specs.declared.Arranged.{Arranged}
 use Rattle.arranging_plan.specs.Ids.{place_of}
 use Rattle.arranging_plan.specs.Ordered.{States, LeavesAll, state_at, stored_at, plan_on, next_on}
-use Rattle.arranging_plan.specs.Gate.{gate_of}
+use Rattle.arranging_plan.specs.Gate.{gate_of, is_refused}
 use Rattle.arranging_plan.specs.declared.ordered.OrderingStreams.{OrderingStreams}
 use Rattle.arranging.specs.Calls.{arrange_of, Arranges, take_of}
 
@@ -40,11 +41,11 @@ module _ (z : Sizes) (s : States) (id : ℕ) (o : List ℕ) where
   }
 
   -- any other item is arranged at the place of its stream
-  pub arranges : (i : ℕ) (p : List ℕ) {a : Arranged} {j : ℕ} {counters : OrderingStreams} {index lengths bytes out : List ℕ}
-      → arrange_of z s id i p o ≡ Ok a → j ≡ place_of s.counters.known id
-      → LeavesAll (stored_at z.fragment_size s j id (arranged (Ok a) z.fragment_size i p (state_at z.fragment_size s j))) counters index lengths bytes
-      → out ≡ written (handed_out (Ok a) p) o → Arranges z s id i p o (record { answer = Ok a; streams = counters }) index lengths bytes out
-  arranges i p w e left out = record { answer_is = sym w; leaves = rw (w, ← e) left; output_is = rw w out }
+  pub arranges : (i : ℕ) (p : List ℕ) {a : Result Arranged Refusal} {j : ℕ} {counters : OrderingStreams} {index lengths bytes out : List ℕ}
+      → arrange_of z s id i p o ≡ a → is_refused a ≡ false → j ≡ place_of s.counters.known id
+      → LeavesAll (stored_at z.fragment_size s j id (arranged a z.fragment_size i p (state_at z.fragment_size s j))) counters index lengths bytes
+      → out ≡ written (handed_out a p) o → Arranges z s id i p o (record { answer = a; streams = counters }) index lengths bytes out
+  arranges i p w q e left out = record { answer_is = sym w; leaves = rw (w, q, ← e) left; output_is = rw w out }
 
   pub take_shut : (why : Refusal) → gate_of z s o ≡ Err why → take_of z s id o ≡ Err why
   unfolding take_of

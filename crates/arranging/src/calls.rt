@@ -50,23 +50,14 @@ pub fn arrange(
     let planned = arranging_plan::ordered::judge(streams, index, id, item);
     let j = planned.at;
     let answer = planned.plan;
-    let Ok(plan) = answer else {
+    if gate::refused(answer) {
         return AfterArrange { answer, streams };
-    };
-    ordering::doing::hand_out(Ok(plan), payload, output);
+    }
+    ordering::doing::hand_out(answer, payload, output);
     AfterArrange {
         answer,
         streams: ordered::perform(
-            streams,
-            f,
-            index,
-            lengths,
-            bytes,
-            j,
-            Ok(plan),
-            id,
-            item,
-            payload,
+            streams, f, index, lengths, bytes, j, answer, id, item, payload,
         ),
     }
 }
