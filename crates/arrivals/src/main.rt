@@ -4,8 +4,7 @@
 
 use ordering::{Arranged, OrderingStream};
 use serial::ItemId;
-use std::io;
-use std::io::{BufReader, BufWriter, Read, Write};
+use std::io::{self, Cursor, Read, Write};
 use terms::{Refusal, Sizes};
 
 // The least sizes of a link.
@@ -33,44 +32,55 @@ struct Listed {
     output: [u8; OUTPUT],
 }
 
-// The input ends inside an index.
-#[derive(Clone, Copy)]
-struct Short;
+// The input is read so many bytes at a time, so that no index lies in two parts. What a part comes to is written before the next is
+// read.
+const PART: usize = 4096;
 
-fn main(rt: HostRuntime) -> io::Result<()> {
-    let mut input = BufReader::new(rt.alloc(), rt.stdin())?;
-    let mut out = BufWriter::new(rt.alloc(), io::writer(&rt))?;
-    writeln!(out, "index answer out")?;
-    list(&mut input, &mut out)?;
-    out.flush()
+// How many bytes of text wait, and how many at most before they are written: so a line, of 400 bytes at most, has room.
+const TEXT: usize = 4096;
+
+const WAITING: u64 = 3600;
+
+fn main(rt: HostRuntime) {
+    write(b"index answer out\n", &rt);
+    list(&mut rt.stdin(), &rt);
+}
+
+// The listing goes on where standard output cannot be written.
+fn write(bytes: &[u8], out: &impl Print) {
+    let _ = out.write_all(bytes);
 }
 
 // A proved loop has to end, and nothing says that the input does: this one has more turns than any run uses up.
-fn list(input: &mut impl Read, out: &mut impl Write) -> io::Result<()> {
+fn list(input: &mut impl Read, out: &impl Print) {
     let mut listed = Listed::new();
+    let mut room = [0; PART];
     for _ in 0..u64::MAX {
-        match item(input) {
-            Ok(Some(item)) => listed.arrival(item, out)?,
-            Ok(None) => return Ok(()),
-            Err(Short) => return writeln!(out, "short"),
+        let part = read(input, &mut room);
+        listed.arrivals(part, out);
+        if part.len() < PART {
+            break;
         }
     }
-    Ok(())
 }
 
-// The next index, none where the input has ended.
-fn item(input: &mut impl Read) -> Result<Option<ItemId>, Short> {
-    let Some(high) = byte(input) else {
-        return Ok(None);
-    };
-    let low = byte(input).ok_or(Short)?;
-    Ok(Some(ItemId(u16::from_be_bytes([high, low]))))
+// What comes, until the room is full or the input has ended.
+fn read<'a>(input: &mut impl Read, room: &'a mut [u8]) -> &'a [u8] {
+    let mut count = 0usize;
+    for _ in 0..PART {
+        match input.read(room.get_mut(count..).unwrap_or(&mut [])) {
+            Ok(0) | Err(_) => break,
+            Ok(more) => count = count.saturating_add(more),
+        }
+    }
+    room.get(..count).unwrap_or(&[])
 }
 
-fn byte(input: &mut impl Read) -> Option<u8> {
-    let mut byte = [0];
-    input.read_exact(&mut byte).ok()?;
-    Some(byte[0])
+// Writes the text that waits.
+fn write_out(text: &mut Cursor<[u8; TEXT]>, out: &impl Print) {
+    let count = text.position() as usize;
+    write(text.get_ref().get(..count).unwrap_or(&[]), out);
+    text.set_position(0);
 }
 
 impl Listed {
@@ -82,6 +92,22 @@ impl Listed {
             bytes: [0; MOST],
             output: [0; OUTPUT],
         }
+    }
+
+    // The arrivals of a part. Where the input ends inside an index a line says so.
+    fn arrivals(&mut self, part: &[u8], out: &impl Print) {
+        let mut text = Cursor::new([0; TEXT]);
+        let (items, rest) = part.as_chunks::<2>();
+        for item in items {
+            let _ = self.arrival(ItemId(u16::from_be_bytes(*item)), &mut text);
+            if WAITING < text.position() {
+                write_out(&mut text, out);
+            }
+        }
+        if !rest.is_empty() {
+            let _ = writeln!(text, "short");
+        }
+        write_out(&mut text, out);
     }
 
     // One arrival, and takes until none.

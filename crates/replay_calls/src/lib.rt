@@ -2,6 +2,10 @@
 // crate.
 #![tactic(auto)]
 
+ghost use Rattle.std.specs.Prelude.{◌≡◌};
+ghost use Rattle.ends.specs.State.{fresh_end};
+ghost use Rattle.link.specs.Calls.{new_of};
+
 use ends::End;
 use flight::SentPacket;
 use flight::lost::Dropped;
@@ -12,8 +16,9 @@ use sending::Written;
 use serial::PacketNumber;
 use terms::{Refusal, Sizes};
 
-// The counters of an end, its tables and rooms, as long as a link asks for, and what its last call wrote.
-#[derive(Drop)]
+// The counters of an end, its tables and rooms, as long as a link asks for, and what its last call wrote. It takes some 875 KB, so
+// it is made once, where it stays, and begun as often as need be.
+#[derive(Clone, Copy)]
 pub struct Connection {
     sizes: Sizes,
     pub end: End,
@@ -31,10 +36,22 @@ pub struct Connection {
     pub output: [u8; 16401],
 }
 
+// No end has these: each size is at least 1.
+const NO_SIZES: Sizes = Sizes {
+    fragment_size: 0,
+    reassembly_slots: 0,
+    max_fragments: 0,
+    packets_in_flight: 0,
+    version: 0,
+};
+
 impl Connection {
-    pub fn new(sizes: Sizes) -> Result<Connection, Refusal> {
-        let mut connection = Connection {
-            sizes,
+    // One that was never begun: it has no sizes, and each call is refused for that.
+    pub fn new() -> Connection
+        ensures { result.sizes.fragment_size ≡ 0 }
+    {
+        Connection {
+            sizes: NO_SIZES,
             end: ends::fresh(),
             received: [0; 33],
             number: [0; 256],
@@ -48,12 +65,17 @@ impl Connection {
             lengths: [0; 256],
             held: [0; 65536],
             output: [0; 16401],
-        };
-        connection.begin()?;
-        Ok(connection)
+        }
     }
 
-    fn begin(&mut self) -> Result<(), Refusal> {
+    // A fresh end of these sizes, with nothing in flight and nothing held. So its other tables and its rooms count for nothing,
+    // and stay as they are.
+    pub fn begin(&mut self, sizes: Sizes) -> Result<(), Refusal>
+        ensures sizes_after { self.new.sizes ≡ sizes }
+        ensures end_after { self.new.end ≡ fresh_end }
+        ensures answer { result ≡ new_of sizes self.old.received self.old.number self.old.records self.old.payloads self.old.slots self.old.entry self.old.header self.old.joined self.old.index self.old.lengths self.old.held self.old.output }
+    {
+        self.sizes = sizes;
         let begun = link::new(
             self.sizes,
             &mut self.received,

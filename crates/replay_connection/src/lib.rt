@@ -7,20 +7,22 @@ mod operation;
 use operation::Operation;
 use replay_calls::Connection;
 use replay_departures::log::Log;
-use replay_departures::losses;
+use replay_departures::losses::{self, Losses};
 use script::{Body, Field, Refused, Stop};
 
-#[derive(Drop)]
+#[derive(Clone, Copy)]
 pub struct Ends {
     first: Side,
     second: Side,
+    losses: Losses,
 }
 
-// One end: its number, its connection where that is made, and the datagrams that it has sent.
-#[derive(Drop)]
+// One end: its number, whether its connection was made, which is there from the start, and the datagrams that it has sent.
+#[derive(Clone, Copy)]
 struct Side {
     number: u8,
-    connection: Option<Connection>,
+    made: bool,
+    connection: Connection,
     log: Log,
 }
 
@@ -29,6 +31,7 @@ impl Ends {
         Ends {
             first: Side::new(0),
             second: Side::new(1),
+            losses: Losses::new(),
         }
     }
 
@@ -38,8 +41,8 @@ impl Ends {
             0x80 => self.second.make(field.body, out),
             0x78 => self.second.hear(&self.first, field.body, out),
             0x88 => self.first.hear(&self.second, field.body, out),
-            0x71..=0x7F => self.first.step(field, out),
-            0x81..=0x8F => self.second.step(field, out),
+            0x71..=0x7F => self.first.step(field, &mut self.losses, out),
+            0x81..=0x8F => self.second.step(field, &mut self.losses, out),
             _ => Err(Stop::Bad),
         }
     }
@@ -49,7 +52,8 @@ impl Side {
     fn new(number: u8) -> Side {
         Side {
             number,
-            connection: None,
+            made: false,
+            connection: Connection::new(),
             log: Log::new(),
         }
     }
@@ -59,14 +63,12 @@ impl Side {
         let sizes = operation::sizes(body)?;
         let end = self.number;
         print!(out; "end{end} new")?;
-        self.log = Log::new();
-        match Connection::new(sizes) {
-            Ok(connection) => self.connection = Some(connection),
-            Err(why) => {
-                self.connection = None;
-                let refused = Refused(why);
-                print!(out; " {refused}")?;
-            }
+        self.log.clear();
+        let begun = self.connection.begin(sizes);
+        self.made = begun.is_ok();
+        if let Err(why) = begun {
+            let refused = Refused(why);
+            print!(out; " {refused}")?;
         }
         self.finish(out)
     }
@@ -76,34 +78,39 @@ impl Side {
         let mut body = body;
         let place = body.long()?;
         body.end()?;
-        let Some(connection) = &mut self.connection else {
+        if !self.made {
             return script::missing(out);
-        };
+        }
         let Some(datagram) = other.log.get(place as usize) else {
             return script::missing(out);
         };
         let from = other.number;
         let to = self.number;
         print!(out; "line {from}>{to} {place}")?;
-        replay_arrivals::receive(connection, datagram, out)?;
+        replay_arrivals::receive(&mut self.connection, datagram, out)?;
         self.finish(out)
     }
 
-    fn step(&mut self, field: Field<'_>, out: &impl Print) -> Result<(), Stop> {
+    fn step(
+        &mut self,
+        field: Field<'_>,
+        losses: &mut Losses,
+        out: &impl Print,
+    ) -> Result<(), Stop> {
         let operation = Operation::read(field)?;
-        let Some(connection) = &mut self.connection else {
+        if !self.made {
             return script::missing(out);
-        };
+        }
         let end = self.number;
         let word = operation.word();
         print!(out; "end{end} {word}")?;
-        perform(operation, connection, &mut self.log, out)?;
+        perform(operation, &mut self.connection, &mut self.log, losses, out)?;
         self.finish(out)
     }
 
     // A line ends with how many packets are in flight. A log without room ends the run.
     fn finish(&self, out: &impl Print) -> Result<(), Stop> {
-        let count = self.connection.as_ref().map_or(0, in_flight);
+        let count = in_flight(&self.connection);
         println!(out; " | {count}")?;
         if self.log.is_full() {
             return Err(Stop::Bad);
@@ -122,6 +129,7 @@ fn perform(
     operation: Operation<'_>,
     connection: &mut Connection,
     log: &mut Log,
+    losses: &mut Losses,
     out: &impl Print,
 ) -> Result<(), Stop> {
     match operation {
@@ -131,7 +139,7 @@ fn perform(
         Operation::Heartbeat => replay_departures::heartbeat(log, out),
         Operation::Cycle(items) => replay_departures::cycle(connection, items, out),
         Operation::Feed(packets) => replay_arrivals::feed(connection, packets, out),
-        Operation::Resend => losses::resend(connection, log, out),
+        Operation::Resend => losses::resend(connection, log, losses, out),
         Operation::State => Ok(()),
     }
 }

@@ -49,7 +49,7 @@ pub fn send(
 }
 
 // What a send has written, and its further fragments; or its refusal.
-fn written(
+pub fn written(
     connection: &mut Connection,
     log: &mut Log,
     answer: Result<Written, Refusal>,

@@ -3,10 +3,12 @@
 
 ghost use Rattle.std.specs.Prelude.{◌≡◌, ◌≤◌, ◌<◌, ◌+◌, ◌-◌, true, false, None, IfSome, take, drop, slice_index};
 
-// One more than the most strings.
-const ENDS: usize = 1025;
+// The most strings.
+pub const MOST: usize = 1024;
 
-#[derive(Drop)]
+const ENDS: usize = MOST + 1;
+
+#[derive(Clone, Copy)]
 pub struct Log {
     // Where each string ends, behind a first 0.
     ends: [usize; ENDS],
@@ -26,6 +28,14 @@ impl Log {
             bytes: [0; 262144],
             full: false,
         }
+    }
+
+    // It has no string. What its bytes are does not count then.
+    pub fn clear(&mut self)
+        ensures { (self.new.count ≡ 0) × (self.new.full ≡ false) }
+    {
+        self.count = 0;
+        self.full = false;
     }
 
     pub fn is_full(&self) -> bool

@@ -25,41 +25,52 @@ pub fn tell(connection: &mut Connection, out: &impl Print) -> Result<(), Stop> {
     Ok(())
 }
 
-fn give_up(connection: &mut Connection) -> Option<Dropped> {
+pub fn give_up(connection: &mut Connection) -> Option<Dropped> {
     connection.dropped().ok().flatten()
 }
 
 // All are given up before any is sent again, since a new packet may take the number of one. So they wait: what was sent, and at
-// the same place its payload.
-#[derive(Drop)]
-struct Losses {
+// the same place its payload. There is one for a whole run.
+#[derive(Clone, Copy)]
+pub struct Losses {
     sent: [SentPacket; MOST],
     payloads: Log,
 }
 
 impl Losses {
-    fn of(connection: &mut Connection) -> Losses {
+    pub fn new() -> Losses {
         let none = SentPacket {
             ordering: 0,
             stream: 0,
             item: ItemId(0),
         };
-        let mut sent = [none; MOST];
-        let mut payloads = Log::new();
-        for packet in &mut sent {
+        Losses {
+            sent: [none; MOST],
+            payloads: Log::new(),
+        }
+    }
+
+    fn collect(&mut self, connection: &mut Connection) {
+        self.payloads.clear();
+        for packet in &mut self.sent {
             let Some(dropped) = give_up(connection) else {
                 break;
             };
             *packet = dropped.sent;
-            payloads.push(script::front(&connection.output, dropped.count));
+            self.payloads
+                .push(script::front(&connection.output, dropped.count));
         }
-        Losses { sent, payloads }
     }
 }
 
 // Tag 79: each is sent again.
-pub fn resend(connection: &mut Connection, log: &mut Log, out: &impl Print) -> Result<(), Stop> {
-    let losses = Losses::of(connection);
+pub fn resend(
+    connection: &mut Connection,
+    log: &mut Log,
+    losses: &mut Losses,
+    out: &impl Print,
+) -> Result<(), Stop> {
+    losses.collect(connection);
     if losses.payloads.get(0).is_none() {
         print!(out; " -")?;
     }

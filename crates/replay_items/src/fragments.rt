@@ -1,4 +1,6 @@
 // Tags 40, 41 and 44: fragments put together to messages, and payloads split.
+ghost use Rattle.std.specs.Prelude.{◌≡◌, false};
+
 use reassembly::effects::Message;
 use reassembly_plan::plan::Fragment;
 use reassembly_plan::words::AckHeader;
@@ -18,9 +20,11 @@ const JOINED: usize = MOST_SLOTS * FRAGMENTS * MOST_BYTES;
 
 const OUTPUT: usize = 16 * MOST_BYTES + 17;
 
-// Messages that are put together in the columns that the calls are lent, and where one is written that is whole.
-#[derive(Drop)]
+// Whether there are sizes for messages; those that are put together in the columns that the calls are lent, and where one is
+// written that is whole.
+#[derive(Clone, Copy)]
 pub struct Messages {
+    made: bool,
     sizes: Sizes,
     sequence_num: PacketNumber,
     slots: [u32; MOST_SLOTS],
@@ -30,36 +34,29 @@ pub struct Messages {
     output: [u8; OUTPUT],
 }
 
-pub fn step(
-    messages: &mut Option<Messages>,
-    field: Field<'_>,
-    out: &impl Print,
-) -> Result<(), Stop> {
+pub fn step(messages: &mut Messages, field: Field<'_>, out: &impl Print) -> Result<(), Stop> {
     match field.tag {
-        0x40 => {
-            *messages = Some(new(field.body, out)?);
-            Ok(())
-        }
+        0x40 => begin(messages, field.body, out),
         0x41 => {
             let mut body = field.body;
             let fragment = fragment(&mut body)?;
-            match messages {
-                Some(messages) => messages.handle(fragment, body.0, out),
-                None => script::missing(out),
+            if !messages.made {
+                return script::missing(out);
             }
+            messages.handle(fragment, body.0, out)
         }
         0x44 => split(field.body, out),
         _ => Err(Stop::Bad),
     }
 }
 
-fn new(mut body: Body<'_>, out: &impl Print) -> Result<Messages, Stop> {
+fn begin(messages: &mut Messages, mut body: Body<'_>, out: &impl Print) -> Result<(), Stop> {
     let f = body.number()?;
     let c = body.number()?;
     body.end()?;
-    let messages = Messages::new(f as usize, c as usize)?;
+    messages.begin(f as usize, c as usize)?;
     println!(out; "fragments new {f} {c}")?;
-    Ok(messages)
+    Ok(())
 }
 
 // A fragment has the acknowledgment header where its id is 0.
@@ -102,21 +99,31 @@ fn sizes(fragment_size: usize, reassembly_slots: usize, max_fragments: usize) ->
 }
 
 impl Messages {
-    fn new(f: usize, c: usize) -> Result<Messages, Stop> {
-        if f < 1 || MOST_BYTES < f || c < 1 || MOST_SLOTS < c {
-            return Err(Stop::Bad);
-        }
-        let mut slots = [0; MOST_SLOTS];
-        let sequence_num = sequence_buffer::new(&mut slots);
-        Ok(Messages {
-            sizes: sizes(f, c, FRAGMENTS),
-            sequence_num,
-            slots,
+    // Some that were never made.
+    pub fn new() -> Messages
+        ensures { result.made ≡ false }
+    {
+        Messages {
+            made: false,
+            sizes: sizes(0, 0, 0),
+            sequence_num: PacketNumber(0),
+            slots: [0; MOST_SLOTS],
             entry: [0; MOST_SLOTS],
             header: [0; MOST_SLOTS],
             bytes: [0; JOINED],
             output: [0; OUTPUT],
-        })
+        }
+    }
+
+    // None has a fragment yet, so what the other columns hold does not count.
+    fn begin(&mut self, f: usize, c: usize) -> Result<(), Stop> {
+        if f < 1 || MOST_BYTES < f || c < 1 || MOST_SLOTS < c {
+            return Err(Stop::Bad);
+        }
+        self.sizes = sizes(f, c, FRAGMENTS);
+        self.sequence_num = sequence_buffer::new(&mut self.slots);
+        self.made = true;
+        Ok(())
     }
 
     fn handle(&mut self, fragment: Fragment, payload: &[u8], out: &impl Print) -> Result<(), Stop> {

@@ -1,4 +1,6 @@
 // Tags 50 to 55: one ordered stream.
+ghost use Rattle.std.specs.Prelude.{◌≡◌, false};
+
 use ordering::{Arranged, OrderingStream};
 use script::{Body, Field, Hex, Refused, Stop};
 use serial::ItemId;
@@ -24,9 +26,11 @@ const HELD: usize = MOST * F;
 
 const OUTPUT: usize = 16 * F + 17;
 
-// A stream, the items that it holds in the columns that its calls are lent, and where one is written that is taken.
-#[derive(Drop)]
+// Whether the stream was made; the stream, the items that it holds in the columns that its calls are lent, and where one is
+// written that is taken.
+#[derive(Clone, Copy)]
 pub struct Ordered {
+    made: bool,
     stream: OrderingStream,
     index: [u32; MOST],
     lengths: [u16; MOST],
@@ -75,18 +79,18 @@ enum Operation<'a> {
     Feed(ItemId, u16),
 }
 
-pub fn step(made: &mut Option<Ordered>, field: Field<'_>, out: &impl Print) -> Result<(), Stop> {
+pub fn step(ordered: &mut Ordered, field: Field<'_>, out: &impl Print) -> Result<(), Stop> {
     if field.tag == 0x50 {
         field.body.end()?;
-        *made = Some(Ordered::new());
+        ordered.begin();
         println!(out; "index answer out")?;
         return Ok(());
     }
     let operation = Operation::try_from(field)?;
-    match made {
-        Some(stream) => stream.perform(operation, out),
-        None => script::missing(out),
+    if !ordered.made {
+        return script::missing(out);
     }
+    ordered.perform(operation, out)
 }
 
 impl<'a> TryFrom<Field<'a>> for Operation<'a> {
@@ -108,14 +112,24 @@ impl<'a> TryFrom<Field<'a>> for Operation<'a> {
 }
 
 impl Ordered {
-    fn new() -> Ordered {
+    // One that was never made.
+    pub fn new() -> Ordered
+        ensures { result.made ≡ false }
+    {
         Ordered {
+            made: false,
             stream: OrderingStream::new(),
             index: [0; MOST],
             lengths: [0; MOST],
             bytes: [0; HELD],
             output: [0; OUTPUT],
         }
+    }
+
+    // It holds nothing, so what its columns have does not count.
+    fn begin(&mut self) {
+        self.stream = OrderingStream::new();
+        self.made = true;
     }
 
     fn perform(&mut self, operation: Operation<'_>, out: &impl Print) -> Result<(), Stop> {

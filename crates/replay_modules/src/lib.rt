@@ -1,5 +1,5 @@
 // The operations of the single modules in a script: tags below 70. A module has a `step`, which is given the fields with its
-// own tags and the object that they are about, none before it was made. Only the program `replay` uses this crate.
+// own tags and the object that they are about, which says whether it was made. Only the program `replay` uses this crate.
 #![tactic(auto)]
 
 use replay_items::fragments::{self, Messages};
@@ -10,13 +10,14 @@ use replay_packets::buffer::{self, Buffer};
 use script::{Body, Field, Stop};
 use sequencing::SequencingStream;
 
-// The objects of the single modules.
-#[derive(Drop)]
+// The objects of the single modules. The large ones are there from the start, since one that came later would be made elsewhere
+// and moved here: that would take as much of the stack again, and that time at each one.
+#[derive(Clone, Copy)]
 pub struct Modules {
     buffer: Option<Buffer>,
-    end: Option<Ack>,
-    messages: Option<Messages>,
-    ordered: Option<Ordered>,
+    end: Ack,
+    messages: Messages,
+    ordered: Ordered,
     sequenced: Option<SequencingStream>,
 }
 
@@ -24,9 +25,9 @@ impl Modules {
     pub fn new() -> Modules {
         Modules {
             buffer: None,
-            end: None,
-            messages: None,
-            ordered: None,
+            end: Ack::new(),
+            messages: Messages::new(),
+            ordered: Ordered::new(),
             sequenced: None,
         }
     }

@@ -1,4 +1,6 @@
 // Tags 20 to 25: the acknowledgments of one end, with room for 256 packets in flight.
+ghost use Rattle.std.specs.Prelude.{◌≡◌, false};
+
 use acknowledgment::Acknowledgment;
 use flight::SentPacket;
 use flight::lost::Dropped;
@@ -31,10 +33,11 @@ const UNORDERED: SentPacket = SentPacket {
     item: ItemId(0),
 };
 
-// The counters of an end, the packets received and those in flight in the columns that the calls are lent, and where a payload
-// is written that was given up.
-#[derive(Drop)]
+// Whether the end was made; its counters, the packets received and those in flight in the columns that the calls are lent, and
+// where a payload is written that was given up.
+#[derive(Clone, Copy)]
 pub struct Ack {
+    made: bool,
     counters: Acknowledgment,
     received: [u32; 33],
     number: [u32; N],
@@ -62,20 +65,18 @@ enum Operation<'a> {
     Cycle(u16, PacketNumber),
 }
 
-pub fn step(end: &mut Option<Ack>, field: Field<'_>, out: &impl Print) -> Result<(), Stop> {
+pub fn step(end: &mut Ack, field: Field<'_>, out: &impl Print) -> Result<(), Stop> {
     if field.tag == 0x20 {
         field.body.end()?;
-        let new = Ack::new();
+        end.begin();
         print!(out; "ack new")?;
-        new.tell_state(out)?;
-        *end = Some(new);
-        return Ok(());
+        return end.tell_state(out);
     }
     let operation = Operation::try_from(field)?;
-    match end {
-        Some(end) => end.perform(operation, out),
-        None => script::missing(out),
+    if !end.made {
+        return script::missing(out);
     }
+    end.perform(operation, out)
 }
 
 impl<'a> TryFrom<Field<'a>> for Operation<'a> {
@@ -115,11 +116,15 @@ fn outgoing(mut body: Body<'_>) -> Result<Operation<'_>, Stop> {
 }
 
 impl Ack {
-    fn new() -> Ack {
+    // One that was never made.
+    pub fn new() -> Ack
+        ensures { result.made ≡ false }
+    {
         let mut received = [0; 33];
         let mut number = [0; N];
         let counters = acknowledgment::new(&mut received, &mut number);
         Ack {
+            made: false,
             counters,
             received,
             number,
@@ -127,6 +132,12 @@ impl Ack {
             payloads: [0; PAYLOADS],
             output: [0; OUTPUT],
         }
+    }
+
+    // It is fresh, with nothing in flight. So no payload counts, and the bytes of those that were stay as they are.
+    fn begin(&mut self) {
+        self.counters = acknowledgment::new(&mut self.received, &mut self.number);
+        self.made = true;
     }
 
     fn perform(&mut self, operation: Operation<'_>, out: &impl Print) -> Result<(), Stop> {

@@ -1,4 +1,4 @@
-// A script is read field by field.
+// A script is read field by field, out of a room that is filled from its start, so that a program needs no heap.
 use crate::{Body, Stop};
 use std::io::Read;
 
@@ -9,46 +9,71 @@ pub struct Field<'a> {
     pub body: Body<'a>,
 }
 
-// The most bytes of a body.
-const LONGEST: usize = 65535;
+// The most bytes of a field.
+const LONGEST: usize = 65538;
 
-// What a script is read from, and room for one body.
+// How many bytes are read before the first field is.
+const ROOM: usize = 196608;
+
+// What a script is read from, and room for some of it. What has been read and not been used lies from `from` to `to`; `ended` where
+// there is no more to read.
 #[derive(Drop)]
 pub struct Script<R: Read + Drop> {
     input: R,
-    room: [u8; LONGEST],
+    room: [u8; ROOM],
+    from: usize,
+    to: usize,
+    ended: bool,
 }
 
 impl<R: Read + Drop> Script<R> {
     pub fn new(input: R) -> Script<R> {
         Script {
             input,
-            room: [0; LONGEST],
+            room: [0; ROOM],
+            from: 0,
+            to: 0,
+            ended: false,
         }
     }
 
     // The next field, none where the input has ended. One that is cut off is bad.
     pub fn field(&mut self) -> Result<Option<Field<'_>>, Stop> {
-        let mut tag = [0u8; 1];
-        if self.input.read_exact(&mut tag).is_err() {
-            return Ok(None);
-        }
-        let length = self.body()?;
-        let body = Body(&self.room[..length as usize]);
-        Ok(Some(Field { tag: tag[0], body }))
+        self.fill();
+        let left = self.room.get(self.from..self.to).unwrap_or(&[]);
+        let Some((head, rest)) = left.split_first_chunk::<3>() else {
+            return if left.is_empty() {
+                Ok(None)
+            } else {
+                Err(Stop::Bad)
+            };
+        };
+        let [tag, high, low] = *head;
+        let length = u16::from_be_bytes([high, low]) as usize;
+        let body = rest.get(..length).ok_or(Stop::Bad)?;
+        self.from = self.from.saturating_add(3 + length);
+        Ok(Some(Field {
+            tag,
+            body: Body(body),
+        }))
     }
 
-    // Reads a body into the room, and answers its length.
-    fn body(&mut self) -> Result<u16, Stop> {
-        let mut length = [0u8; 2];
-        if self.input.read_exact(&mut length).is_err() {
-            return Err(Stop::Bad);
+    // Reads on where less than a whole field may be left, until the room is full or nothing comes.
+    fn fill(&mut self) {
+        let left = self.to.saturating_sub(self.from);
+        if self.ended || LONGEST <= left || ROOM < self.to {
+            return;
         }
-        let length = u16::from_be_bytes(length);
-        let room = &mut self.room[..];
-        match self.input.read_exact(&mut room[..length as usize]) {
-            Ok(()) => Ok(length),
-            Err(_) => Err(Stop::Bad),
+        self.room.copy_within(self.to - left..self.to, 0);
+        self.from = 0;
+        self.to = left;
+        for _ in 0..ROOM {
+            let room = self.room.get_mut(self.to..).unwrap_or(&mut []);
+            match self.input.read(room) {
+                Ok(0) | Err(_) => break,
+                Ok(count) => self.to = self.to.saturating_add(count),
+            }
         }
+        self.ended = self.to < ROOM;
     }
 }

@@ -8,10 +8,12 @@ use std::io;
 
 mod fields;
 mod numbers;
+mod output;
 mod text;
 
 pub use fields::{Field, Script};
 pub use numbers::Body;
+pub use output::Output;
 pub use text::{Bits, Hex, Record, Refused};
 
 // Why a run ends at a field.
@@ -19,7 +21,7 @@ pub use text::{Bits, Hex, Record, Refused};
 pub enum Stop {
     // The field is cut off, of the wrong form, or of no operation.
     Bad,
-    // Its line could not be written.
+    // Its line could not be written: `Output` leaves that out.
     Output(io::Error),
 }
 

@@ -1,5 +1,6 @@
 // The numbers in a body. It is read from its front, and one that is too short or too long for its tag is bad.
-ghost use Rattle.std.specs.Prelude.{◌≡◌, ◌<◌, ◌≤◌, ◌⊎◌, [], ◌∷◌, ◌++◌, length, drop, slice_index, Ok, IfOk, IfErr};
+ghost use Rattle.std.specs.Prelude.{◌≡◌, ◌<◌, ◌≤◌, ◌⊎◌, [], ◌∷◌, ◌++◌, length, take, drop, slice_index, Ok, IfOk, IfErr};
+ghost use Rattle.std.specs.Int.{w16, w32, from_be_bytes};
 ghost use Rattle.script.specs.declared.Stop.TheVariants.{Bad};
 
 use crate::Stop;
@@ -35,16 +36,28 @@ impl<'a> Body<'a> {
         }
     }
 
-    pub fn number(&mut self) -> Result<u16, Stop> {
+    pub fn number(&mut self) -> Result<u16, Stop>
+        ensures first { IfOk result (λ number. number ≡ from_be_bytes w16 (take 2 self.old.0.now)) }
+        ensures rest { IfOk result (λ _. self.new.0.now ≡ drop 2 self.old.0.now) }
+        ensures none { IfErr result (λ why. (why ≡ Bad) × (length self.old.0.now < 2) × (self.new.0.now ≡ self.old.0.now)) }
+    {
         Ok(u16::from_be_bytes(self.bytes()?))
     }
 
-    pub fn long(&mut self) -> Result<u32, Stop> {
+    pub fn long(&mut self) -> Result<u32, Stop>
+        ensures first { IfOk result (λ number. number ≡ from_be_bytes w32 (take 4 self.old.0.now)) }
+        ensures rest { IfOk result (λ _. self.new.0.now ≡ drop 4 self.old.0.now) }
+        ensures none { IfErr result (λ why. (why ≡ Bad) × (length self.old.0.now < 4) × (self.new.0.now ≡ self.old.0.now)) }
+    {
         Ok(u32::from_be_bytes(self.bytes()?))
     }
 
     // Whether a stream is given, 0 or 1, and then the stream.
-    pub fn stream(&mut self) -> Result<u8, Stop> {
+    pub fn stream(&mut self) -> Result<u8, Stop>
+        ensures given { IfOk result (λ stream. slice_index self.old.0.now 0 ≡ 1 → stream ≡ slice_index self.old.0.now 1) }
+        ensures none { IfOk result (λ stream. slice_index self.old.0.now 0 ≡ 0 → stream ≡ 255) }
+        ensures rest { IfOk result (λ _. self.new.0.now ≡ drop 2 self.old.0.now) }
+    {
         let given = self.below(2)? == 1;
         let stream = self.byte()?;
         Ok(if given { stream } else { DEFAULT_STREAM })
