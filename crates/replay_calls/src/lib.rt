@@ -4,7 +4,7 @@
 
 ghost use Rattle.std.specs.Prelude.{◌≡◌};
 ghost use Rattle.ends.specs.State.{fresh_end};
-ghost use Rattle.link.specs.Calls.{new_of};
+ghost use Rattle.link.specs.Calls.{new_of, filled};
 
 use ends::End;
 use flight::SentPacket;
@@ -48,7 +48,7 @@ const NO_SIZES: Sizes = Sizes {
 impl Connection {
     // One that was never begun: it has no sizes, and each call is refused for that.
     pub fn new() -> Connection
-        ensures { result.sizes.fragment_size ≡ 0 }
+        ensures { (result.sizes.fragment_size ≡ 0) × (result.end ≡ fresh_end) }
     {
         Connection {
             sizes: NO_SIZES,
@@ -74,6 +74,9 @@ impl Connection {
         ensures sizes_after { self.new.sizes ≡ sizes }
         ensures end_after { self.new.end ≡ fresh_end }
         ensures answer { result ≡ new_of sizes self.old.received self.old.number self.old.records self.old.payloads self.old.slots self.old.entry self.old.header self.old.joined self.old.index self.old.lengths self.old.held self.old.output }
+        ensures filled_after { (self.new.received ≡ filled result self.old.received) × (self.new.number ≡ filled result self.old.number) × (self.new.slots ≡ filled result self.old.slots) }
+        ensures tables_stay { (self.new.records ≡ self.old.records) × (self.new.entry ≡ self.old.entry) × (self.new.header ≡ self.old.header) × (self.new.index ≡ self.old.index) × (self.new.lengths ≡ self.old.lengths) }
+        ensures rooms_stay { (self.new.payloads ≡ self.old.payloads) × (self.new.joined ≡ self.old.joined) × (self.new.held ≡ self.old.held) × (self.new.output ≡ self.old.output) }
     {
         self.sizes = sizes;
         let begun = link::new(

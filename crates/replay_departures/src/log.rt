@@ -32,7 +32,8 @@ impl Log {
 
     // It has no string. What its bytes are does not count then.
     pub fn clear(&mut self)
-        ensures { (self.new.count ≡ 0) × (self.new.full ≡ false) }
+        ensures empty { (self.new.count ≡ 0) × (self.new.full ≡ false) }
+        ensures stay { (self.new.ends ≡ self.old.ends) × (self.new.bytes ≡ self.old.bytes) }
     {
         self.count = 0;
         self.full = false;

@@ -1,4 +1,6 @@
 // Tags 74 and 79: the packets that an end gives up.
+ghost use Rattle.std.specs.Prelude.{◌≡◌, false};
+
 use crate::log::Log;
 use flight::SentPacket;
 use flight::lost::Dropped;
@@ -38,7 +40,9 @@ pub struct Losses {
 }
 
 impl Losses {
-    pub fn new() -> Losses {
+    pub fn new() -> Losses
+        ensures { (result.payloads.count ≡ 0) × (result.payloads.full ≡ false) }
+    {
         let none = SentPacket {
             ordering: 0,
             stream: 0,

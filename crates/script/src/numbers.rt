@@ -37,7 +37,7 @@ impl<'a> Body<'a> {
     }
 
     pub fn number(&mut self) -> Result<u16, Stop>
-        ensures first { IfOk result (λ number. number ≡ from_be_bytes w16 (take 2 self.old.0.now)) }
+        ensures first { IfOk result (λ number. (2 ≤ length self.old.0.now) × (number ≡ from_be_bytes w16 (take 2 self.old.0.now))) }
         ensures rest { IfOk result (λ _. self.new.0.now ≡ drop 2 self.old.0.now) }
         ensures none { IfErr result (λ why. (why ≡ Bad) × (length self.old.0.now < 2) × (self.new.0.now ≡ self.old.0.now)) }
     {
@@ -45,7 +45,7 @@ impl<'a> Body<'a> {
     }
 
     pub fn long(&mut self) -> Result<u32, Stop>
-        ensures first { IfOk result (λ number. number ≡ from_be_bytes w32 (take 4 self.old.0.now)) }
+        ensures first { IfOk result (λ number. (4 ≤ length self.old.0.now) × (number ≡ from_be_bytes w32 (take 4 self.old.0.now))) }
         ensures rest { IfOk result (λ _. self.new.0.now ≡ drop 4 self.old.0.now) }
         ensures none { IfErr result (λ why. (why ≡ Bad) × (length self.old.0.now < 4) × (self.new.0.now ≡ self.old.0.now)) }
     {
@@ -54,9 +54,12 @@ impl<'a> Body<'a> {
 
     // Whether a stream is given, 0 or 1, and then the stream.
     pub fn stream(&mut self) -> Result<u8, Stop>
+        ensures there { IfOk result (λ _. (2 ≤ length self.old.0.now) × (slice_index self.old.0.now 0 < 2)) }
         ensures given { IfOk result (λ stream. slice_index self.old.0.now 0 ≡ 1 → stream ≡ slice_index self.old.0.now 1) }
         ensures none { IfOk result (λ stream. slice_index self.old.0.now 0 ≡ 0 → stream ≡ 255) }
         ensures rest { IfOk result (λ _. self.new.0.now ≡ drop 2 self.old.0.now) }
+        ensures bad { IfErr result (λ why. (why ≡ Bad) × (length self.old.0.now < 2 ⊎ 2 ≤ slice_index self.old.0.now 0)) }
+        ensures left { IfErr result (λ _. self.new.0.now ≡ drop 1 self.old.0.now) }
     {
         let given = self.below(2)? == 1;
         let stream = self.byte()?;
