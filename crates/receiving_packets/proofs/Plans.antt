@@ -7,7 +7,7 @@ use native.Mathlib.Omega.{arith}
 use lib.Dec.{eqb}
 use borrow.Author.Tests.{eqb-false}
 use Rattle.std.specs.Prelude.{Result, Ok, Err}
-use Rattle.laws.proofs.Cases.{case, no_answer}
+use Rattle.laws.proofs.Cases.{case, both, no_answer}
 use Rattle.terms.specs.declared.Sizes.{Sizes}
 use Rattle.terms.specs.declared.Refusal.{Refusal}
 use Rattle.packet_table.specs.declared.Headers.{Headers}
@@ -44,6 +44,10 @@ carried (Ok (IsHeld k)) p r e = (cc, refl)
 carried (Ok IsOld) p r e = (cc, refl)
 carried (Err why) p r e = no_answer e
 
+answer_of : (a : Result Arranged Refusal) → is_refused a ≡ false → (b : Arranged) × (a ≡ Ok b)
+answer_of (Ok b) e = (b, refl)
+answer_of (Err why) e = both refl e
+
 module _ (o : OrderingStreams) (index : List ℕ) (s : SequencingStreams) (i : ArrangingHeader) where
   sequenced_at : (q : Sequencing) → s.known.made ≤ 4 → sequenced_plan s i ≡ Ok (Sequenced q) → q.at < 4
   unfolding sequenced_plan
@@ -79,6 +83,13 @@ module _ (o : OrderingStreams) (index : List ℕ) (s : SequencingStreams) (i : A
   ordered_by_lem InSequence p few e = absurd (sequenced_no p e)
   ordered_by_lem InOrder p few e = ordered_at p few e
 
+  answered_by : (g : OrderingGuarantee) (p : Planned) → plan_by g i o index s ≡ Ok (Ordered p) → (a : Arranged) × (p.plan ≡ Ok a)
+  answered_by None p e = absurd (let z : ◌≡◌ {A = ℕ} 0 1 = cc in omega arith)
+  answered_by InSequence p e = absurd (sequenced_no p e)
+  answered_by InOrder p e =
+      let w = carried (plan_on o index i.stream i.index.0).plan (plan_on o index i.stream i.index.0) p e in
+      rw w.0 (answer_of (plan_on o index i.stream i.index.0).plan w.1)
+
 module _ (plan : Result Plan Refusal) (h : Headers) (o : OrderingStreams) (index : List ℕ) (s : SequencingStreams) (own : plan ≡ plan_of h o index s) where
   pub sequenced_ready : s.known.made ≤ 4 → SequencedReady plan s
   unfolding plan_of
@@ -87,6 +98,15 @@ module _ (plan : Result Plan Refusal) (h : Headers) (o : OrderingStreams) (index
   pub ordered_ready : o.known.made ≤ 4 → OrderedReady plan o index h.arranging
   unfolding plan_of
   ordered_ready few p e = ordered_by_lem o index s h.arranging h.standard.ordering p few (sym own ∙ e)
+
+  -- what a plan carries is an answer too, and no refusal
+  pub ordered_answered : o.known.made ≤ 4 → (p : Planned) → plan ≡ Ok (Ordered p)
+      → (p.at < 4) × ((a : Arranged) × (p.plan ≡ Ok a) × (Ok a ≡ item_plan (stream_at o p.at) (part index (p.at * 64) 64) h.arranging.index.0))
+  unfolding plan_of
+  ordered_answered few p e =
+      let r = ordered_ready few p e in
+      let g = answered_by o index s h.arranging h.standard.ordering p (sym own ∙ e) in
+      (r.0, (g.0, g.1, sym g.1 ∙ r.1))
 
 -- "a refusal records no packet number", and leaves all else
 pub kept : (plan : Result Plan Refusal) (z : Sizes) (h : Headers) (payload : List ℕ) (end : End) (received number index lengths held output : List ℕ) (r : Received) (why : Refusal)
