@@ -1,6 +1,6 @@
 // A script is read field by field, out of a room that is filled from its start, so that a program needs no heap.
 use crate::{Body, Stop};
-use std::io::Read;
+use std::io::{ErrorKind, Read};
 
 // A field: its tag, and its body.
 #[derive(Clone, Copy)]
@@ -37,21 +37,19 @@ impl<R: Read + Drop> Script<R> {
         }
     }
 
-    // The next field, none where the input has ended. One that is cut off is bad.
+    // The next field, none where the input has ended. One that is cut off is bad. After either a later call asks the input again.
     pub fn field(&mut self) -> Result<Option<Field<'_>>, Stop> {
         self.fill();
         let left = self.room.get(self.from..self.to).unwrap_or(&[]);
-        let Some((head, rest)) = left.split_first_chunk::<3>() else {
+        let Some((tag, body)) = first(left) else {
+            self.ended = false;
             return if left.is_empty() {
                 Ok(None)
             } else {
                 Err(Stop::Bad)
             };
         };
-        let [tag, high, low] = *head;
-        let length = u16::from_be_bytes([high, low]) as usize;
-        let body = rest.get(..length).ok_or(Stop::Bad)?;
-        self.from = self.from.saturating_add(3 + length);
+        self.from = self.from.saturating_add(3 + body.len());
         Ok(Some(Field {
             tag,
             body: Body(body),
@@ -67,13 +65,23 @@ impl<R: Read + Drop> Script<R> {
         self.room.copy_within(self.to - left..self.to, 0);
         self.from = 0;
         self.to = left;
-        for _ in 0..ROOM {
+        for _ in 0..u64::MAX {
             let room = self.room.get_mut(self.to..).unwrap_or(&mut []);
             match self.input.read(room) {
-                Ok(0) | Err(_) => break,
+                Ok(0) => break,
                 Ok(count) => self.to = self.to.saturating_add(count),
+                Err(error) if error.kind() == ErrorKind::Interrupted => {}
+                Err(_) => break,
             }
         }
         self.ended = self.to < ROOM;
     }
+}
+
+// The tag and the body of the field at the start, none where it is cut off.
+fn first(bytes: &[u8]) -> Option<(u8, &[u8])> {
+    let (head, rest) = bytes.split_first_chunk::<3>()?;
+    let [tag, high, low] = *head;
+    let body = rest.get(..u16::from_be_bytes([high, low]) as usize)?;
+    Some((tag, body))
 }

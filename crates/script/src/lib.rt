@@ -9,6 +9,8 @@ use std::io;
 mod fields;
 mod numbers;
 mod output;
+#[cfg(test)]
+mod tests;
 mod text;
 
 pub use fields::{Field, Script};
