@@ -56,7 +56,7 @@ impl<R: Read + Drop> Script<R> {
         }))
     }
 
-    // Reads on where less than a whole field may be left, until the room is full or nothing comes.
+    // Reads on where less than a whole field may be left.
     fn fill(&mut self) {
         let left = self.to.saturating_sub(self.from);
         if self.ended || LONGEST <= left || ROOM < self.to {
@@ -65,6 +65,13 @@ impl<R: Read + Drop> Script<R> {
         self.room.copy_within(self.to - left..self.to, 0);
         self.from = 0;
         self.to = left;
+        self.read();
+        self.ended = self.to < ROOM;
+    }
+
+    // Until the room is full or nothing comes. A read that is interrupted is tried again: so nothing says how many there are.
+    #[inline(never)]
+    fn read(&mut self) {
         for _ in 0..u64::MAX {
             let room = self.room.get_mut(self.to..).unwrap_or(&mut []);
             match self.input.read(room) {
@@ -74,7 +81,6 @@ impl<R: Read + Drop> Script<R> {
                 Err(_) => break,
             }
         }
-        self.ended = self.to < ROOM;
     }
 }
 

@@ -5,8 +5,8 @@ use std::io;
 use std::io::{ErrorKind, Read};
 use std::test::Fail;
 
-// Fields of 0, 5 and 2 bytes, with tags 1, 2 and 3. They end at 3, 11 and 16.
-const BYTES: [u8; 16] = [1, 0, 0, 2, 0, 5, 5, 5, 5, 5, 5, 3, 0, 2, 2, 2];
+// Fields of 0, 5 and 2 bytes, with tags 1, 2 and 3, which stand for each byte too. They end at 3, 11 and 16.
+const BYTES: [u8; 16] = [1, 0, 0, 2, 0, 5, 2, 2, 2, 2, 2, 3, 0, 2, 3, 3];
 
 // It gives a byte at a time, and before the one at a place it stops once: with an error, or as at its end where there is none.
 #[derive(Clone, Copy)]
@@ -40,18 +40,18 @@ fn over(place: usize, error: Option<ErrorKind>) -> Script<Stopping> {
     })
 }
 
-// The tag of the next field, which has so many bytes; 0 where there is none.
+// The tag of the next field, 0 where there is none. One that has not the bytes of its tag is bad.
 fn tag(script: &mut Script<Stopping>) -> Result<u8, Stop> {
     let Some(field) = script.field()? else {
         return Ok(0);
     };
-    let length = field.body.0.len();
+    let tag = field.tag;
+    let bytes = field.body.0;
     let lengths = [0, 0, 5, 2];
-    if lengths.get(field.tag as usize) == Some(&length) {
-        Ok(field.tag)
-    } else {
-        Err(Stop::Bad)
+    if lengths.get(tag as usize) != Some(&bytes.len()) || bytes.iter().any(|byte| *byte != tag) {
+        return Err(Stop::Bad);
     }
+    Ok(tag)
 }
 
 // The tags that the next four calls tell, 255 for a bad one.
